@@ -6,11 +6,12 @@ ghost use Rattle.std.specs.Prelude.{◌≤◌, IfSome};
 use crate::connections::Connections;
 use crate::durable::{Durable, Flushed};
 use crate::flags::Flag;
+use crate::grants::Grants;
 use crate::waker::Waker;
 use cc_messages::Event;
 use cc_node::{Core, Node};
 use cc_ops::{Asked, Stage};
-use cc_protocol::{is_furthest_behind, is_given_up, may_hand_over};
+use cc_protocol::{Objection, is_furthest_behind, is_given_up, may_hand_over};
 use cc_views::NodeId;
 use std::alloc::{AllocError, Global};
 use std::sync::atomic::{AtomicU64, Ordering};
@@ -26,7 +27,7 @@ const MOST_FURTHEST: usize = 256;
 const MOST_UNANSWERED: usize = 64;
 
 /// Why an event wasn't admitted.
-#[derive(Clone, Copy, Debug, PartialEq, Eq)]
+#[derive(Clone, Copy, PartialEq, Eq)]
 pub enum NotAdmitted {
     /// The node takes no further event.
     Closed,
@@ -38,6 +39,8 @@ pub enum NotAdmitted {
     Waited,
     /// No such event may come over its connection.
     Barred,
+    /// The operator's request isn't brought to the node, for that reason.
+    Objected(Objection),
 }
 
 /// One permit for each entry of the queue. An event takes one before it is handed over, and gives it back when it is refused
@@ -245,23 +248,26 @@ impl<F: Flushed> Admission<F> {
         unreachable!()
     }
 
-    /// Waits until all that was asked over the connection with that ticket is answered, or asked over another one.
+    /// Waits until all that was asked over the connection with that ticket is answered, or asked over another one: what was asked
+    /// once more is, once the wishes were granted that were made by now.
     pub fn outlast<R: Wait>(
         &self,
         rt: &R,
         waker: &Waker,
         connections: &Connections,
+        grants: &Grants,
         ticket: u64,
         over: &Flag,
     ) {
         let accepted = self.accepted.load(Ordering::SeqCst);
+        let made = grants.made();
         let mut permits = self.permits.lock(rt);
         if permits.flushed.count() < accepted {
             waker.wake();
         }
         for _ in rt.forever() {
-            let is_flushed = permits.flushed.count() >= accepted;
-            if is_flushed && !connections.awaits(rt, ticket, &permits.unanswered) {
+            let is_done = permits.flushed.count() >= accepted && grants.has(made);
+            if is_done && !connections.awaits(rt, ticket, &permits.unanswered) {
                 return;
             }
             if permits.is_closed || over.is_set() {
@@ -280,6 +286,12 @@ impl<F: Flushed> Admission<F> {
         permits.look(node);
         drop(permits);
         self.changed.notify_all();
+        self.settled.notify_all();
+    }
+
+    /// Wishes were granted.
+    pub fn granted<R: Wait>(&self, rt: &R) {
+        drop(self.permits.lock(rt));
         self.settled.notify_all();
     }
 

@@ -7,7 +7,7 @@ use crate::connections::{Connection, Connections};
 use crate::durable::Flushed;
 use crate::waker::Waker;
 use cc_messages::Event;
-use cc_protocol::{Admitted, Spoken};
+use cc_protocol::{Admitted, Objection, Spoken};
 use cc_views::NodeId;
 use std::sync::Wait;
 use std::sync::atomic::{AtomicU64, Ordering};
@@ -20,8 +20,14 @@ pub trait Admitting {
     /// Whether such an event may come over the connection at all.
     fn may_bring(&self, event: &Event) -> bool;
 
-    /// Waits until the event may be handed over, and takes a permit for it, or says why it got none.
-    fn admit<R: Wait>(&self, rt: &R, event: &Event) -> Result<(), NotAdmitted>
+    /// Waits until the event may be handed over, and takes a permit for it, or says why it got none. One that the server objects to
+    /// is turned away where one can be.
+    fn admit<R: Wait>(
+        &self,
+        rt: &R,
+        event: &Event,
+        objection: Option<Objection>,
+    ) -> Result<(), NotAdmitted>
         ensures { OnErr result may_turn_away };
 }
 
@@ -77,9 +83,17 @@ impl<F: Flushed> Admitting for ConnectionAdmission<'_, F> {
         self.admitted.access.allows(event)
     }
 
-    fn admit<R: Wait>(&self, rt: &R, event: &Event) -> Result<(), NotAdmitted> {
+    fn admit<R: Wait>(
+        &self,
+        rt: &R,
+        event: &Event,
+        objection: Option<Objection>,
+    ) -> Result<(), NotAdmitted> {
         if !self.may_bring(event) {
             return Err(NotAdmitted::Barred);
+        }
+        if let Some(objection) = objection {
+            return Err(NotAdmitted::Objected(objection));
         }
         if let Some(node) = speaker_of(event) {
             if self.is_replaced(rt, node) {

@@ -1,15 +1,16 @@
 //! The connections that are open, and which of them asked last in each session.
 
 use crate::flags::Flag;
+use crate::offer::offer;
 use cc_ops::Asked;
-use cc_protocol::{Access, Admitted, Origin, Routes, Speakers, Spoken};
+use cc_protocol::{Access, Admitted, LastAsks, Origin, Routes, Speakers, Spoken};
 use cc_views::{NoMemory, NodeId};
 use crossbeam_channel::Sender;
 use std::alloc::Global;
 use std::collections::BTreeMap;
 use std::net::{Shutdown, TcpStream};
 use std::sync::atomic::{AtomicU64, Ordering};
-use std::sync::{Arc, Mutex, Wait};
+use std::sync::{Arc, Condvar, Mutex, Wait};
 
 // How many bytes wait for one connection at most: 262,144 as anywhere, and a round's 32 replies of 55,077 bytes at most, which
 // one turn may pass on to a connection that has 32 sessions.
@@ -51,7 +52,7 @@ impl Connection {
         let count = bytes.len() as u64;
         let waiting = self.waiting.fetch_add(count, Ordering::SeqCst);
         let is_plenty = waiting > MOST_WAITING;
-        if is_plenty || self.out.try_send(rt, bytes).is_err() {
+        if is_plenty || !offer(rt, &self.out, bytes) {
             self.close();
         }
     }
@@ -69,12 +70,31 @@ impl Connection {
     }
 }
 
+// How many asks are judged at once at most: one of each connection.
+const MOST_JUDGED: usize = Routes::MAX_CONNECTIONS + Routes::MAX_SPARE;
+
 #[derive(Drop)]
 struct Table {
     connections: BTreeMap<u64, Arc<Connection>>,
+    // The sockets of connections whose worker has ended, and whose writer hasn't.
+    leaving: BTreeMap<u64, Arc<TcpStream>>,
     routes: Routes,
     speakers: Speakers,
+    asks: LastAsks,
+    // The sessions of which an ask is judged now: one ask of a session at a time.
+    judged: Vec<u64>,
     is_closed: bool,
+}
+
+/// What became of an ask that was judged.
+#[derive(Clone, Copy, PartialEq, Eq)]
+pub enum Verdict {
+    /// It was taken in.
+    Taken,
+    /// It is its session's last request once more.
+    Repeat,
+    /// It was refused otherwise.
+    Refused,
 }
 
 impl Table {
@@ -119,10 +139,62 @@ impl Table {
         Arc::try_clone(self.connections.get(&ticket)?).ok()
     }
 
-    fn leave(&mut self, ticket: u64) {
-        drop(self.connections.remove(&ticket));
-        self.routes.leave(ticket);
+    // Whether an ask of that session may be judged now. It is, from then on.
+    fn claim(&mut self, session: u64) -> bool {
+        if self.judged.contains(&session) {
+            return false;
+        }
+        self.judged.push(session).is_ok()
+    }
+
+    // What an ask that was judged leaves: whether it repeats its session's last request with another command.
+    fn judge(&mut self, ask: &Asked, place: Option<u64>, verdict: Verdict) -> bool {
+        self.judged.retain(|session| *session != ask.session);
+        let differs = verdict == Verdict::Repeat && self.asks.differs(ask);
+        if verdict == Verdict::Taken {
+            self.asks.remember(ask);
+        }
+        if let Some(place) = place {
+            if verdict == Verdict::Refused || differs {
+                self.routes.take_back(place);
+            } else {
+                self.routes.take(ask.session, place);
+            }
+        }
+        differs
+    }
+
+    // The worker of a connection has ended: nothing is routed there any more, and its writer has what waits.
+    fn end(&mut self, ticket: u64) {
+        self.routes.end(ticket);
         self.speakers.leave(ticket);
+        let Some(connection) = self.connections.remove(&ticket) else {
+            return;
+        };
+        let is_kept = match Arc::try_clone(&connection.stream) {
+            Ok(stream) => self.leaving.insert(ticket, stream).is_ok(),
+            Err(_) => false,
+        };
+        if !is_kept || self.is_closed {
+            connection.close();
+        }
+        drop(connection);
+    }
+
+    // The writer of a connection has ended too: another one may come in its place.
+    fn leave(&mut self, ticket: u64) {
+        drop(self.leaving.remove(&ticket));
+        self.routes.leave(ticket);
+    }
+
+    fn close(&mut self) {
+        self.is_closed = true;
+        for connection in self.connections.values() {
+            connection.close();
+        }
+        for stream in self.leaving.values() {
+            let _ = stream.shutdown(Shutdown::Both);
+        }
     }
 }
 
@@ -130,6 +202,8 @@ impl Table {
 #[derive(Drop)]
 pub struct Connections {
     table: Mutex<Table>,
+    // An ask was judged.
+    judged: Condvar,
 }
 
 impl Connections {
@@ -139,13 +213,25 @@ impl Connections {
             drop(routes);
             return Err(NoMemory);
         };
+        let Ok(asks) = LastAsks::new(alloc) else {
+            drop((routes, speakers));
+            return Err(NoMemory);
+        };
+        let Ok(judged) = Vec::with_capacity(alloc, MOST_JUDGED) else {
+            drop((routes, speakers, asks));
+            return Err(NoMemory);
+        };
         Ok(Connections {
             table: Mutex::new(Table {
                 connections: BTreeMap::new(alloc),
+                leaving: BTreeMap::new(alloc),
                 routes,
                 speakers,
+                asks,
+                judged,
                 is_closed: false,
             }),
+            judged: Condvar::new(),
         })
     }
 
@@ -160,9 +246,20 @@ impl Connections {
         self.table.lock(rt).enter(connection, from, access)
     }
 
-    /// The connection with that ticket has ended, and so have its routes.
+    /// The worker of the connection with that ticket has ended, and so have its routes. It counts among those that are open
+    /// until its writer has ended too.
+    pub fn end<R: Wait>(&self, rt: &R, ticket: u64) {
+        self.table.lock(rt).end(ticket);
+    }
+
+    /// The connection with that ticket is gone.
     pub fn leave<R: Wait>(&self, rt: &R, ticket: u64) {
         self.table.lock(rt).leave(ticket);
+    }
+
+    /// Whether an open connection brings what a node sends.
+    pub fn has_speaker<R: Wait>(&self, rt: &R, node: NodeId) -> bool {
+        self.table.lock(rt).speakers.has_speaker(node)
     }
 
     /// A frame of a node came over the connection with that ticket. An older connection of that node is closed.
@@ -170,19 +267,35 @@ impl Connections {
         self.table.lock(rt).speak(node, ticket)
     }
 
-    /// The reply to that request goes to the connection with that ticket from now on. The place of the ask, if it has one.
-    pub fn route<R: Wait>(&self, rt: &R, session: u64, request: u64, ticket: u64) -> Option<u64> {
-        self.table.lock(rt).routes.route(session, request, ticket)
+    /// An ask that came over the connection with that ticket is judged from now on, and its reply goes there: the place of its
+    /// route, if it has one. It waits while another ask of its session is judged. One that repeats its session's last request with
+    /// another command has no route, since that reply is another one's.
+    pub fn begin_ask<R: Wait>(&self, rt: &R, ask: &Asked, ticket: u64) -> Option<u64> {
+        let mut table = self.table.lock(rt);
+        for _ in rt.forever() {
+            if table.claim(ask.session) {
+                break;
+            }
+            table = self.judged.wait(rt, table);
+        }
+        if table.asks.differs(ask) {
+            return None;
+        }
+        table.routes.route(ask.session, ask.request, ticket)
     }
 
-    /// The ask at that place was taken, or had been before.
-    pub fn take<R: Wait>(&self, rt: &R, session: u64, place: u64) {
-        self.table.lock(rt).routes.take(session, place);
-    }
-
-    /// The ask at that place was refused, and leaves nothing to wait for: replies go where they went before it.
-    pub fn take_back<R: Wait>(&self, rt: &R, place: u64) {
-        self.table.lock(rt).routes.take_back(place);
+    /// The ask with a route at that place was judged. One that was taken in is its session's last one. One that was refused leaves
+    /// its routes as they were, unless it is the last one once more. Whether it repeats that with another command.
+    pub fn end_ask<R: Wait>(
+        &self,
+        rt: &R,
+        ask: &Asked,
+        place: Option<u64>,
+        verdict: Verdict,
+    ) -> bool {
+        let differs = self.table.lock(rt).judge(ask, place, verdict);
+        self.judged.notify_all();
+        differs
     }
 
     /// Whether the reply to one of these goes to the connection with that ticket.
@@ -212,10 +325,6 @@ impl Connections {
 
     /// Closes all connections, and takes no further one.
     pub fn close<R: Wait>(&self, rt: &R) {
-        let mut table = self.table.lock(rt);
-        table.is_closed = true;
-        for connection in table.connections.values() {
-            connection.close();
-        }
+        self.table.lock(rt).close();
     }
 }

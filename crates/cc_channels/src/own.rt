@@ -1,6 +1,7 @@
 //! The channel on which what a node sends to itself waits for its worker.
 
 use crate::flags::Flag;
+use crate::offer::offer;
 use cc_messages::Event;
 use crossbeam_channel::{Receiver, Sender, bounded};
 use std::alloc::{AllocError, Global};
@@ -22,7 +23,7 @@ impl OwnChannel {
         if self.is_muted.is_set() {
             drop(event);
         } else {
-            drop(self.to.try_send(rt, Some(event)));
+            let _ = offer(rt, &self.to, Some(event));
         }
     }
 

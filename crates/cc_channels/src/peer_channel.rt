@@ -1,6 +1,7 @@
 //! The channel on which what is for a peer waits for its writer.
 
 use crate::flags::Flag;
+use crate::offer::offer;
 use cc_frames::Peer;
 use cc_protocol::Parcel;
 use cc_views::NodeId;
@@ -13,7 +14,7 @@ use std::sync::{Arc, Mutex, Wait};
 // How many parcels wait for a peer's writer at most.
 const CHANNEL_ROOM: usize = 256;
 
-// After so many seconds in which a peer was late, it is connected to anew.
+// After so many seconds in which a peer was late or silent, it is connected to anew.
 const MOST_SILENCE: u64 = 5;
 
 /// The channel to a peer.
@@ -25,9 +26,12 @@ pub struct PeerChannel {
     is_muted: Flag,
     // What its writer is told, and what it tells.
     way: Arc<Way>,
-    // For how many seconds the peer has been late.
+    // Something was put on it since the last heartbeat was due.
+    is_used: Flag,
+    // For how many seconds the peer has been late or silent.
     silence: AtomicU64,
-    // When a frame of the peer came last, and since when it is taken for absent, in milliseconds since 1970. 0 for never.
+    // When a frame of the peer came last, in milliseconds by a clock that never goes back, and since when it is taken for absent, in
+    // milliseconds since 1970. 0 for never.
     last_heard: AtomicU64,
     absent_since: AtomicU64,
 }
@@ -92,7 +96,16 @@ impl PeerChannel {
         if self.is_muted.is_set() {
             drop(parcel);
         } else {
-            drop(self.to.try_send(rt, parcel));
+            self.is_used.set();
+            let _ = offer(rt, &self.to, parcel);
+        }
+    }
+
+    /// A second has passed: where nothing else was put on the channel in it, the peer is told again up to which number it was heard,
+    /// as a sign of life.
+    pub fn beat<R: Wait>(&self, rt: &R, heard: u64) {
+        if !self.is_used.take() && self.to.is_empty() {
+            let _ = offer(rt, &self.to, Parcel::Ack(heard));
         }
     }
 
@@ -105,15 +118,15 @@ impl PeerChannel {
         self.is_muted.put(false);
     }
 
-    /// A second has passed, at whose end the peer is late, or isn't: where it stays so, its connection may lead to a machine
-    /// that vanished.
-    pub fn note_progress(&self, is_late: bool) {
-        if !is_late {
+    /// So many seconds have passed, at whose end the peer is late or silent, or neither: where it stays so, its connection may lead
+    /// to a machine that vanished.
+    pub fn note_progress(&self, is_behind: bool, seconds: u64) {
+        if !is_behind {
             self.silence.store(0, Ordering::SeqCst);
             return;
         }
-        let silence = self.silence.fetch_add(1, Ordering::SeqCst);
-        if silence.saturating_add(1) >= MOST_SILENCE {
+        let silence = self.silence.fetch_add(seconds, Ordering::SeqCst);
+        if silence.saturating_add(seconds) >= MOST_SILENCE {
             self.silence.store(0, Ordering::SeqCst);
             self.way.is_stale.set();
         }
@@ -134,12 +147,12 @@ impl PeerChannel {
         moment(self.way.connected_since.load(Ordering::SeqCst))
     }
 
-    /// A frame of the peer came at that moment, in milliseconds since 1970.
+    /// A frame of the peer came at that moment, in milliseconds by a clock that never goes back.
     pub fn hear(&self, now: u64) {
-        self.last_heard.store(now, Ordering::SeqCst);
+        self.last_heard.store(now.max(1), Ordering::SeqCst);
     }
 
-    /// When a frame of the peer came last.
+    /// When a frame of the peer came last, by that clock.
     pub fn last_heard(&self) -> Option<u64> {
         moment(self.last_heard.load(Ordering::SeqCst))
     }
@@ -184,6 +197,7 @@ pub(crate) fn channel_to(alloc: Global, peer: &Peer) -> Result<(PeerChannel, Far
         to,
         is_muted: Flag::new(),
         way,
+        is_used: Flag::new(),
         silence: AtomicU64::new(0),
         last_heard: AtomicU64::new(0),
         absent_since: AtomicU64::new(0),

@@ -26,10 +26,6 @@ const PATIENCE_MS: u64 = 1000;
 // For how long nothing more is noted of a connection that was lost, in milliseconds.
 const QUIET_MS: u64 = 1000;
 
-// For how many pauses there may be nothing for a peer: half an hour. Then its connection is made anew, long before the peer
-// takes this machine for one that vanished.
-const MOST_PAUSES: u64 = 18_000;
-
 /// Writes what comes out of the channel, until its senders are gone, a write fails or there is no memory. It takes what it
 /// has written off the count of bytes that wait.
 pub fn write_frames<R: Wait, W: Write + Drop>(
@@ -69,7 +65,7 @@ fn gather<R: Wait>(
 }
 
 /// Writes to one peer, which it connects to again after a failure, until the flag is set. It notes when the node is connected, and
-/// when it isn't any longer, each once a second at most.
+/// when it isn't any longer: at most one of each a second, and the last note says what is so a second later.
 pub fn write_peer<R: Wait + Clock + Log + Net<Stream = TcpStream>>(
     rt: &R,
     alloc: Global,
@@ -77,7 +73,7 @@ pub fn write_peer<R: Wait + Clock + Log + Net<Stream = TcpStream>>(
     end: FarEnd,
     over: &Flag,
 ) {
-    let mut noted = 0;
+    let mut noted = Noted::new();
     for _ in rt.forever() {
         if over.is_set() {
             return;
@@ -85,29 +81,52 @@ pub fn write_peer<R: Wait + Clock + Log + Net<Stream = TcpStream>>(
         let _ = end.way.take_stale();
         let address = end.way.address(rt);
         if let Ok(stream) = TcpStream::connect_timeout(rt, &address, Duration::from_secs(1)) {
-            let now = millis(rt);
-            let is_noted = now >= noted;
-            end.way.put_connected(now);
-            note_way(rt, me, &end, is_noted, "is connected to", address);
+            end.way.put_connected(millis(rt));
+            noted.connect(rt, me, end.peer, address);
             write_while(rt, alloc, me, &end, &stream, over);
             end.way.put_connected(0);
-            note_way(
-                rt,
-                me,
-                &end,
-                is_noted,
-                "has lost its connection to",
-                address,
-            );
-            noted = if is_noted {
-                millis(rt).saturating_add(QUIET_MS)
-            } else {
-                noted
-            };
         }
+        noted.lose(rt, me, end.peer, address);
         thread::sleep(rt, Duration::from_millis(PAUSE_MS));
     }
     unreachable!()
+}
+
+// What was noted of the connection to a peer.
+#[derive(Drop)]
+struct Noted {
+    // The last note says that the peer is connected to.
+    is_connected: bool,
+    // Until when no loss is noted, in milliseconds since 1970.
+    quiet_until: u64,
+}
+
+impl Noted {
+    fn new() -> Self {
+        Noted {
+            is_connected: false,
+            quiet_until: 0,
+        }
+    }
+
+    // The peer is connected to.
+    fn connect<R: Log>(&mut self, rt: &R, me: NodeId, peer: NodeId, address: SocketAddr) {
+        if !self.is_connected {
+            info!(rt; "node {} is connected to node {} at {}", me.number(), peer.number(), address);
+        }
+        self.is_connected = true;
+    }
+
+    // The peer isn't connected to.
+    fn lose<R: Log + Clock>(&mut self, rt: &R, me: NodeId, peer: NodeId, address: SocketAddr) {
+        let now = millis(rt);
+        if !self.is_connected || now < self.quiet_until {
+            return;
+        }
+        self.is_connected = false;
+        self.quiet_until = now.saturating_add(QUIET_MS);
+        info!(rt; "node {} has lost its connection to node {} at {}", me.number(), peer.number(), address);
+    }
 }
 
 /// The moment by the machine's clock, in milliseconds since 1970, and 1 where it can't be read.
@@ -118,21 +137,15 @@ pub fn millis<R: Clock>(rt: &R) -> u64 {
     }
 }
 
-// Notes what became of the connection to a peer.
-fn note_way<R: Log>(
-    rt: &R,
-    me: NodeId,
-    end: &FarEnd,
-    is_noted: bool,
-    what: &str,
-    address: SocketAddr,
-) {
-    if is_noted {
-        info!(rt; "node {} {} node {} at {}", me.number(), what, end.peer.number(), address);
+/// The moment by the machine's clock that never goes back, in milliseconds, and 1 where it can't be read.
+pub fn monotonic_millis<R: Clock>(rt: &R) -> u64 {
+    match rt.monotonic() {
+        Ok(since) => u64::try_from(since.as_millis()).unwrap_or(u64::MAX).max(1),
+        Err(_) => 1,
     }
 }
 
-// Writes until a write fails, there was nothing to write for too long, or a flag is set.
+// Writes until a write fails, or a flag is set.
 fn write_while<R: Wait + Clock>(
     rt: &R,
     alloc: Global,
@@ -144,16 +157,13 @@ fn write_while<R: Wait + Clock>(
     let _ = stream.set_nodelay(true);
     let _ = stream.set_write_timeout(Some(Duration::from_millis(PATIENCE_MS)));
     let mut to: &TcpStream = stream;
-    let mut pauses: u64 = 0;
     for _ in rt.forever() {
-        if over.is_set() || end.way.take_stale() || pauses >= MOST_PAUSES {
+        if over.is_set() || end.way.take_stale() {
             return;
         }
         let Ok(first) = end.from.recv_timeout(rt, Duration::from_millis(PAUSE_MS)) else {
-            pauses = pauses.saturating_add(1);
             continue;
         };
-        pauses = 0;
         let Ok(bytes) = bundled(rt, alloc, me, &end.from, first) else {
             continue;
         };

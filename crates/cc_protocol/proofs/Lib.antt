@@ -9,3 +9,4 @@ mod StandingLaws
 mod StandingsLaws
 mod StirLaws
 mod WishingLaws
+mod LastAskLaws

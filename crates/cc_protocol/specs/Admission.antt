@@ -33,15 +33,15 @@ may_stir me (message.Store view tag q) = true
 may_stir me (message.StoreAck tag q) = q == me
 may_stir me (message.Snapshot changes view) = true
 
--- an ask leaves room for 384 posts, unless it waited ten seconds, and then the node decides; a message that may be answered
--- leaves room for 256, unless it comes from one of the peers that are furthest behind: they are read on, since their
+-- an ask leaves room for 384 posts, unless it waited ten seconds, and then the node decides; an ask under number 0 is always refused,
+-- so it needs no room; a message that may be answered leaves room for 256, unless it comes from one of the peers that are furthest behind: they are read on, since their
 -- acknowledgements, which come behind it, are what makes room
 abbrev pub may_hand_over : ℕ → Event → ℕ → Bool → ℕ → Bool
 may_hand_over me event.Enter kept is_furthest waited = true
 may_hand_over me event.Leave kept is_furthest waited = true
 may_hand_over me (event.Deliver from number m) kept is_furthest waited = not (may_stir me m) || (is_furthest || nat_le 256 (free_posts kept))
 may_hand_over me (event.Acked peer number) kept is_furthest waited = true
-may_hand_over me (event.Ask session request command) kept is_furthest waited = nat_le 10 waited || nat_le 384 (free_posts kept)
+may_hand_over me (event.Ask session request command) kept is_furthest waited = (request == 0) || (nat_le 10 waited || nat_le 384 (free_posts kept))
 may_hand_over me (event.Retire node) kept is_furthest waited = true
 may_hand_over me (event.Lapse node) kept is_furthest waited = true
 may_hand_over me event.Snapshot kept is_furthest waited = true

@@ -5,8 +5,10 @@ pub mod Heeding
 pub mod Admission
 pub mod Asking
 pub mod Operating
+pub mod Objecting
 pub mod Routing
 pub mod Speaking
+pub mod Silence
 pub mod Standing
 pub mod Standings
 pub mod Lasting
@@ -14,3 +16,4 @@ pub mod Incoming
 pub mod Bundles
 pub mod Calling
 pub mod Wishing
+pub mod LastAsks

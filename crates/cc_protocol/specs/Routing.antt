@@ -4,7 +4,7 @@
 --     admitted, entered            what one more connection may do, and what is open then
 --     may_route, routed            whether an ask over a connection can have a route, and where answers go then
 --     taken, taken_back            the ask was taken by the node;  it was refused
---     closed                       without a connection and its routes
+--     ended, closed                without the routes to a connection;  without the connection too
 --     connection_of                      the connection that an answer goes to
 --     IsRouting                    how many there are, that routes lead to open connections, and that tickets and places were given
 use Rattle.std.specs.Prelude.{◌≤◌, ℕ, ◌+◌, ◌^◌, ◌==◌, ◌&&◌, ◌||◌, nat_lt, not, Bool, List, [], ◌∷◌, ◌++◌, length, filter, find, Option, Some, None}
@@ -109,6 +109,10 @@ taken session place g = record g { routes = filter (λ r. not (is_passed session
 -- answers go where they went before it
 abbrev pub taken_back : ℕ → Routing → Routing
 taken_back place g = record g { routes = filter (λ (r : Route). not (r.place == place)) g.routes }
+
+-- no answer goes there any more
+abbrev pub ended : ℕ → Routing → Routing
+ended ticket g = record g { routes = filter (λ (r : Route). not (r.ticket == ticket)) g.routes }
 
 abbrev pub closed : ℕ → Routing → Routing
 closed ticket g = record g {

@@ -2,6 +2,7 @@
 --     Speaking                  each such connection with its node
 --     spoken                    what is made of a frame of a node that comes over a connection
 --     speaking_after            who speaks then
+--     has_speaker               whether one speaks for a node
 --     silenced                  without a connection
 --     IsSpeaking                how many there are
 use Rattle.std.specs.Prelude.{◌≤◌, ℕ, ◌==◌, ◌&&◌, ◌||◌, nat_lt, not, Bool, List, [], ◌∷◌, ◌++◌, length, filter, find, option_map, Option, Some, None}
@@ -21,6 +22,9 @@ speaker_limit = 1032
 -- a newer connection speaks for the node
 abbrev pub is_replaced : ℕ → ℕ → Speaking → Bool
 is_replaced node ticket rows = list_any (λ (r : Speaker). (r.node == node) && nat_lt ticket r.ticket) rows
+
+abbrev pub has_speaker : ℕ → Speaking → Bool
+has_speaker node rows = list_any (λ (r : Speaker). r.node == node) rows
 
 -- an older one spoke for it
 abbrev pub replaces : ℕ → ℕ → Speaker → Bool

@@ -15,7 +15,7 @@ use cc_views::NodeId;
 // How many posts a node keeps at most.
 const MAX_POSTS: u64 = Outbox::MAX_POSTS as u64;
 
-// How many posts an ask leaves room for.
+// How many posts an ask leaves room for, unless it asks under number 0, which is always refused.
 const ROOM_BESIDE_ASKS: u64 = 384;
 
 // How many posts a message leaves room for.
@@ -33,7 +33,9 @@ pub fn may_hand_over(me: NodeId, event: &Event, kept: u64, is_furthest: bool, wa
     ensures { result ≡ may_hand_over me event.now kept is_furthest waited }
 {
     match event {
-        Event::Ask { .. } => waited >= PATIENCE || leaves_room(kept, ROOM_BESIDE_ASKS),
+        Event::Ask { request, .. } => {
+            *request == 0 || waited >= PATIENCE || leaves_room(kept, ROOM_BESIDE_ASKS)
+        }
         Event::Deliver { message, .. } => {
             !may_stir(me, message) || is_furthest || leaves_room(kept, ROOM_BESIDE_MESSAGES)
         }

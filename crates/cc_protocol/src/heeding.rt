@@ -1,7 +1,7 @@
 //! What a worker does once it has the answer to an event that it brought.
 
 ghost use Rattle.std.specs.Prelude.{◌≡◌};
-ghost use Rattle.cc_protocol.specs.Heeding.{heed_undelivered, heed_unasked, heed_refused, told, heed_unstirred, heed_of};
+ghost use Rattle.cc_protocol.specs.Heeding.{heed_undelivered, heed_unasked, heed_refused, told_of, told, heed_unstirred, heed_of};
 
 use crate::frames::refused_frame;
 use cc_frames::Frame;
@@ -28,14 +28,14 @@ pub enum Duty {
 }
 
 /// What the answer to an event asks: of one that was accepted it tells whether it stirs, which is whether it made a post or
-/// an answer.
-pub fn heed(event: &Event, answer: Result<bool, Refusal>) -> Duty
-    ensures { result ≡ heed_of event.now answer }
+/// an answer. `differs` tells whether the event repeats its session's last request with another command.
+pub fn heed(event: &Event, answer: Result<bool, Refusal>, differs: bool) -> Duty
+    ensures { result ≡ heed_of event.now answer differs }
 {
     match answer {
         Ok(true) => Duty::Wake,
         Ok(false) => heed_unstirred(event),
-        Err(refusal) => heed_refused(event, refusal),
+        Err(refusal) => heed_refused(event, refusal, differs),
     }
 }
 
@@ -49,12 +49,16 @@ fn heed_unstirred(event: &Event) -> Duty
     }
 }
 
-fn heed_refused(event: &Event, refusal: Refusal) -> Duty
-    ensures { result ≡ heed_refused event.now refusal }
+fn heed_refused(event: &Event, refusal: Refusal, differs: bool) -> Duty
+    ensures { result ≡ heed_refused event.now refusal differs }
 {
     match event {
         Event::Deliver { from, .. } => heed_undelivered(*from, refusal),
-        Event::Ask { session, .. } => heed_unasked(*session, event, refusal),
+        Event::Ask {
+            session,
+            request,
+            ..
+        } => heed_unasked(*session, event, told_of(*request, differs, refusal)),
         _ => told(event, refusal),
     }
 }
@@ -66,6 +70,16 @@ fn heed_undelivered(from: NodeId, refusal: Refusal) -> Duty
         Refusal::Old(_) => Duty::Reack(from),
         Refusal::QueueFull => Duty::BringAgain,
         _ => Duty::Nothing,
+    }
+}
+
+// A repeat with another command isn't answered: it is told the session's last request, which has its own number.
+fn told_of(request: u64, differs: bool, refusal: Refusal) -> Refusal
+    ensures { result ≡ told_of request differs refusal }
+{
+    match refusal {
+        Refusal::Repeat if differs => Refusal::Stale(request),
+        _ => refusal,
     }
 }
 

@@ -29,6 +29,11 @@ pub trait Input {
     /// That a read of it can fail: so one of bytes in memory never does.
     ghost may_fail: { Type 0 };
 
+    /// The next frame is read from here on, of which bytes are there already if it `has_begun`: so an input that has a clock
+    /// knows how long that frame takes.
+    fn begin_frame(&mut self, has_begun: bool)
+        ensures { remaining self.new ≡ remaining self.old };
+
     /// Reads into the buffer: how many bytes, and 0 at the end of input.
     fn read_into(&mut self, buffer: &mut [u8]) -> std::io::Result<usize>
         ensures bound { ReadsAtMost result buffer.new }
@@ -41,6 +46,8 @@ impl Input for &[u8] {
 
     ghost may_fail = { ⊥ };
 
+    fn begin_frame(&mut self, _has_begun: bool) {}
+
     fn read_into(&mut self, buffer: &mut [u8]) -> std::io::Result<usize> {
         self.read(buffer)
     }
@@ -52,6 +59,8 @@ impl Input for &TcpStream {
     ghost remaining = { λ _. None };
 
     ghost may_fail = { ⊤ };
+
+    fn begin_frame(&mut self, _has_begun: bool) {}
 
     fn read_into(&mut self, buffer: &mut [u8]) -> std::io::Result<usize> {
         self.read(buffer)
@@ -124,6 +133,7 @@ impl<I: Input> Incoming<I> {
     pub fn read_frame(&mut self) -> Result<Frame, Ending>
         ensures { IfSome self.old (λ bytes. MatchResult result (λ frame. Next bytes frame self.new) (λ why. Ends I.may_fail bytes why)) }
     {
+        self.reader.begin_frame(self.window.start < self.window.end);
         read_whole(
             self.alloc,
             &mut self.reader,

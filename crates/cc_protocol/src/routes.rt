@@ -5,7 +5,7 @@ ghost use Rattle.std.specs.List.{AllByRecursion};
 ghost use Rattle.std.specs.Bool.{then_some};
 ghost use Rattle.std.specs.Vec.{vec_capacity};
 ghost use Rattle.cc_protocol.specs.Routing.{Routing, no_routing, is_open, is_ask, connection_in, connection_of, admitted, entered, may_route, routed};
-ghost use Rattle.cc_protocol.specs.Routing.{is_passed, taken, taken_back, ticket_of, closed, connection_limit, connection_limit_for};
+ghost use Rattle.cc_protocol.specs.Routing.{is_passed, taken, taken_back, ticket_of, ended, closed, connection_limit, connection_limit_for};
 
 use crate::origin::{Access, Admitted, Origin};
 use crate::route::Route;
@@ -155,6 +155,13 @@ impl Routes {
         ensures { self.new ≡ taken_back place self.old }
     {
         remove_route(&mut self.routes, place);
+    }
+
+    /// No answer goes to a connection any more, which is open until it leaves.
+    pub fn end(&mut self, ticket: u64)
+        ensures { self.new ≡ ended ticket self.old }
+    {
+        remove_routes(&mut self.routes, ticket);
     }
 
     /// A connection is closed, and with it go the routes to it.

@@ -2,7 +2,7 @@
 
 ghost use Rattle.std.specs.Prelude.{◌≡◌, [], IfOk};
 ghost use Rattle.std.specs.Vec.{vec_capacity};
-ghost use Rattle.cc_protocol.specs.Speaking.{is_replaced, older_of, spoken_over, spoken, others, speaking_after, silenced};
+ghost use Rattle.cc_protocol.specs.Speaking.{is_replaced, has_speaker, older_of, spoken_over, spoken, others, speaking_after, silenced};
 
 use cc_views::{NoMemory, NodeId};
 use std::alloc::Global;
@@ -73,6 +73,13 @@ impl Speakers {
         spoken
     }
 
+    /// Whether an open connection brings what a node sends.
+    pub fn has_speaker(&self, node: NodeId) -> bool
+        ensures { result ≡ has_speaker node self.now }
+    {
+        has_speaker(&self.rows, node)
+    }
+
     /// A connection is closed.
     pub fn leave(&mut self, ticket: u64)
         ensures { self.new ≡ silenced ticket self.old }
@@ -86,6 +93,12 @@ fn is_replaced(rows: &[Speaker], node: NodeId, ticket: u64) -> bool
 {
     rows.iter()
         .any(|row| row.node == node && row.ticket > ticket)
+}
+
+fn has_speaker(rows: &[Speaker], node: NodeId) -> bool
+    ensures { result ≡ has_speaker node rows.now }
+{
+    rows.iter().any(|row| row.node == node)
 }
 
 fn older_of(rows: &[Speaker], node: NodeId, ticket: u64) -> Option<u64>

@@ -1,15 +1,61 @@
 -- What a worker brings.
+--     same_again   whether an event is brought again, whatever it repeats
 --     unasked      of a frame that only a node sends
 --     brings       of one that gives and hears so
-use Rattle.std.proofs.Common.{◌≡◌, ℕ, List, [], ◌∷◌, Option, Some, None, sym, subst}
+use Rattle.std.proofs.Common.{◌≡◌, ℕ, List, [], ◌∷◌, Option, Some, None, Bool, true, false, Result, Ok, Err, sym, subst, refl}
 use Rattle.std.specs.Prelude.{IfSome}
 use Rattle.cc_messages.specs.declared.event.Event.{Event}
+use Rattle.cc_messages.specs.declared.event.Event.TheVariants as event
+use Rattle.cc_messages.specs.declared.refusal.Refusal.{Refusal}
+use Rattle.cc_messages.specs.declared.refusal.Refusal.TheVariants as refusal
 use Rattle.cc_intake.specs.Talks.{Answer, Spoke, Talks}
 use Rattle.cc_frames.specs.declared.frame.Frame.{Frame}
+use Rattle.cc_messages.specs.declared.command.Command.{Command}
+use Rattle.cc_protocol.specs.Heeding.{heed_of, heed_refused}
 use Rattle.cc_protocol.specs.Incoming.{Next}
 use Rattle.cc_protocol.specs.Frames.{event_in}
 use Rattle.cc_server.specs.declared.caller.Done.{Done}
-use Rattle.cc_server.specs.Serving.{due_after, Takes, IsUnasked, Stops, Worker, Gives, Hears, Brings}
+use Rattle.cc_server.specs.Serving.{duty_of, brings_again, due_after, Takes, IsUnasked, Stops, Worker, Gives, Hears, Brings}
+
+asked_again : (session request : ℕ) (command : Command) (why : Refusal) (differs : Bool)
+    → brings_again (heed_refused (event.Ask session request command) why differs) ≡ brings_again (heed_refused (event.Ask session request command) why false)
+asked_again session request command refusal.Repeat true = refl
+asked_again session request command refusal.Repeat false = refl
+asked_again session request command refusal.Left differs = refl
+asked_again session request command refusal.NotEntered differs = refl
+asked_again session request command refusal.AlreadyEntered differs = refl
+asked_again session request command refusal.NotJoined differs = refl
+asked_again session request command (refusal.Old n) differs = refl
+asked_again session request command (refusal.Gap n) differs = refl
+asked_again session request command refusal.NothingToAck differs = refl
+asked_again session request command refusal.TooManyNodes differs = refl
+asked_again session request command refusal.TooManySessions differs = refl
+asked_again session request command (refusal.Stale n) differs = refl
+asked_again session request command (refusal.Skip n) differs = refl
+asked_again session request command refusal.Busy differs = refl
+asked_again session request command refusal.SetFull differs = refl
+asked_again session request command refusal.OutboxFull differs = refl
+asked_again session request command refusal.Spent differs = refl
+asked_again session request command refusal.NoMemory differs = refl
+asked_again session request command refusal.QueueFull differs = refl
+
+refused_again : (e : Event) (why : Refusal) (differs : Bool) → brings_again (heed_refused e why differs) ≡ brings_again (heed_refused e why false)
+refused_again event.Enter why differs = refl
+refused_again event.Leave why differs = refl
+refused_again (event.Deliver from number m) why differs = refl
+refused_again (event.Acked peer number) why differs = refl
+refused_again (event.Ask session request command) why differs = asked_again session request command why differs
+refused_again (event.Retire node) why differs = refl
+refused_again (event.Lapse node) why differs = refl
+refused_again event.Snapshot why differs = refl
+
+stirred_again : (e : Event) (stirs differs : Bool) → brings_again (heed_of e (Ok stirs) differs) ≡ brings_again (heed_of e (Ok stirs) false)
+stirred_again e true differs = refl
+stirred_again e false differs = refl
+
+pub same_again : (e : Event) (answer : Answer) (differs : Bool) → brings_again (duty_of e answer differs) ≡ brings_again (duty_of e answer false)
+same_again e (Ok a) differs = stirred_again e a.stirs differs
+same_again e (Err refused) differs = refused_again e refused.why differs
 
 pub unasked : (ahead : Option (List ℕ)) (frame : Frame) (after : Option (List ℕ)) → IfSome ahead (λ bytes. Next bytes frame after) → event_in frame ≡ None
     → IfSome ahead (λ bytes. IsUnasked bytes)

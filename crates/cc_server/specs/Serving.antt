@@ -17,16 +17,17 @@ use Rattle.cc_protocol.specs.Incoming.{Next, Ends}
 use Rattle.cc_server.specs.declared.caller.Done.{Done}
 use Rattle.cc_server.specs.declared.caller.Done.TheVariants as done
 
-abbrev pub duty_of : Event → Answer → Duty
-duty_of e (Ok a) = heed_of e (Ok a.stirs)
-duty_of e (Err refused) = heed_of e (Err refused.why)
+abbrev pub duty_of : Event → Answer → Bool → Duty
+duty_of e (Ok a) differs = heed_of e (Ok a.stirs) differs
+duty_of e (Err refused) differs = heed_of e (Err refused.why) differs
 
 abbrev pub brings_again : Duty → Bool
 brings_again duty.BringAgain = true
 brings_again _ = false
 
+-- whether it repeats a request with another command changes nothing of that
 abbrev pub due_after : Event → Answer → Option Event
-due_after e answer = if brings_again (duty_of e answer) then Some e else None
+due_after e answer = if brings_again (duty_of e answer false) then Some e else None
 
 -- an event that is due, or that of the next frame of bytes that are known
 abbrev pub Takes : Option Event → Option (List ℕ) → Event → Option (List ℕ) → Type 0

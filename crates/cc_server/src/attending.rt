@@ -3,6 +3,7 @@
 use crate::caller::{Done, serve};
 use crate::context::Context;
 use crate::shared::Shared;
+use crate::timed_input::{Patience, TimedInput};
 use cc_channels::{Connection, NotAdmitted, write_frames};
 use cc_intake::{Hooks, Lane, Life};
 use cc_protocol::{Access, Admitted, Ending, Origin};
@@ -26,8 +27,11 @@ const PATIENCE_MS: u64 = 5000;
 // How long a connection may say nothing, in seconds: it may lead to a machine that vanished.
 const SILENCE_S: u64 = 3600;
 
-// How long one may that is kept for the operator.
-const OPERATOR_SILENCE_S: u64 = 5;
+// How long a whole frame may take, in seconds.
+const FRAME_S: u64 = 60;
+
+// How long one that is kept for the operator may say nothing, and how long a frame may take there, in seconds.
+const OPERATOR_S: u64 = 5;
 
 /// Which port of a node somebody connects to.
 #[derive(Clone, Copy)]
@@ -61,18 +65,18 @@ where
         return;
     };
     context.shared.gauges.open();
-    let _ = connection
-        .reader()
-        .set_read_timeout(Some(silence_of(admitted)));
+    debug!(rt; "node {} takes a connection from {}", context.me.number(), from);
     thread::scope(thread::scope_env(), rt, move |scope| -> () {
         if scope.spawn(move || write_out(rt, pen)).is_ok() {
             serve_in(context, connection, admitted, from);
         } else {
-            context.shared.connections.leave(rt, admitted.ticket);
+            context.shared.connections.end(rt, admitted.ticket);
             drop(connection);
         }
     });
+    context.shared.connections.leave(rt, admitted.ticket);
     context.shared.gauges.close();
+    debug!(rt; "node {} has ended its connection from {}", context.me.number(), from);
 }
 
 /// What a connection's writer has.
@@ -126,14 +130,17 @@ fn origin_of<R: Wait>(rt: &R, shared: &Shared, from: SocketAddr, port: Port) -> 
     }
 }
 
-// How long a connection may say nothing.
-fn silence_of(admitted: Admitted) -> Duration {
-    let seconds = if admitted.access.asks {
-        SILENCE_S
+// How long a connection may say nothing, and a frame of it may take.
+fn patience_of(admitted: Admitted) -> Patience {
+    let (silence, frame) = if admitted.access.asks {
+        (SILENCE_S, FRAME_S)
     } else {
-        OPERATOR_SILENCE_S
+        (OPERATOR_S, OPERATOR_S)
     };
-    Duration::from_secs(seconds)
+    Patience {
+        silence: Duration::from_secs(silence),
+        frame: Duration::from_secs(frame),
+    }
 }
 
 // Writes what is for a connection, and closes it where a write fails.
@@ -145,8 +152,8 @@ fn write_out<R: Wait>(rt: &R, pen: Pen) {
 }
 
 // Serves with a share out of the pool, or a new one. Who says that nothing more comes is answered all the same. The connection is
-// let go at the end, and so the channel to the writer, which then ends.
-fn serve_in<R: Wait + Log, H: Hooks, L: Life, Q: Lane>(
+// let go at the end, and so the channel to the writer, which then ends. Until then it counts among those that are open.
+fn serve_in<R: Wait + Clock + Log, H: Hooks, L: Life, Q: Lane>(
     context: &Context<'_, R, H, L, Q>,
     connection: Arc<Connection>,
     admitted: Admitted,
@@ -158,22 +165,28 @@ fn serve_in<R: Wait + Log, H: Hooks, L: Life, Q: Lane>(
         let Shared {
             waker,
             connections,
+            grants,
             ..
         } = context.shared;
         let over = inside.over();
-        context
-            .admission
-            .outlast(context.rt, waker, connections, admitted.ticket, over);
+        context.admission.outlast(
+            context.rt,
+            waker,
+            connections,
+            grants,
+            admitted.ticket,
+            over,
+        );
     }
     context
         .shared
         .connections
-        .leave(context.rt, admitted.ticket);
+        .end(context.rt, admitted.ticket);
     drop(connection);
 }
 
 // Why no further event came. None where there is no share.
-fn serve_out<R: Wait + Log, H: Hooks, L: Life, Q: Lane>(
+fn serve_out<R: Wait + Clock + Log, H: Hooks, L: Life, Q: Lane>(
     context: &Context<'_, R, H, L, Q>,
     connection: &Connection,
     admitted: Admitted,
@@ -187,7 +200,7 @@ fn serve_out<R: Wait + Log, H: Hooks, L: Life, Q: Lane>(
         connection,
         admitted.ticket,
         from,
-        connection.reader(),
+        TimedInput::new(context.rt, connection.reader(), patience_of(admitted)),
         &mut share,
     );
     context.give_back(share);

@@ -7,17 +7,21 @@ ghost use Rattle.cc_server.specs.Serving.{brings_again, Takes, Stops, Brings};
 use crate::context::Context;
 use crate::duties::duty_of;
 use crate::meeting::Meeting;
-use crate::notes::{Notice, give_notice};
+use crate::notes::{Departure, Notice, give_notice};
 use crate::of_life::OfLife;
 use crate::replies::Replies;
 use crate::shared::Shared;
-use cc_channels::{Admission, Admitting, Flushed, NotAdmitted, bytes_of, speaker_of};
+use cc_channels::{Admission, Admitting, Flushed, NotAdmitted, Verdict, bytes_of, speaker_of};
 use cc_frames::Frame;
 use cc_intake::{Accepted, Hooks, Lane, Life, Refused, Share, Source};
 use cc_messages::{Event, Refusal};
-use cc_protocol::{Duty, Ending, Incoming, Input, event_of};
+use cc_ops::Asked;
+use cc_protocol::{
+    Duty, Ending, Incoming, Input, Objection, event_of, objection_frame,
+    objection_to,
+};
 use cc_views::NodeId;
-use log::Log;
+use log::{Log, debug};
 use std::alloc::Global;
 use std::net::SocketAddr;
 use std::sync::Wait;
@@ -49,6 +53,8 @@ pub struct Caller<'a, R: Wait, I: Input, S: Admitting, D: Replies, F: Flushed> {
     connection: &'a D,
     ticket: u64,
     frames: Incoming<I>,
+    // The event that comes next is a retirement of a node that has to be silent.
+    is_guarded: bool,
     // The place of the route of the event that was given last, if that is an ask that has one.
     place: Option<u64>,
     // The event that is to be given again.
@@ -68,10 +74,13 @@ impl<R: Wait + Log, I: Input, S: Admitting, D: Replies, F: Flushed> Caller<'_, R
             return Ok(event);
         }
         match self.frames.read_frame() {
-            Ok(frame) => match event_of(frame) {
-                Some(event) => Ok(event),
-                None => Err(Done::Unasked),
-            },
+            Ok(frame) => {
+                self.is_guarded = matches!(frame, Frame::RetireIfSilent { .. });
+                match event_of(frame) {
+                    Some(event) => Ok(event),
+                    None => Err(Done::Unasked),
+                }
+            }
             Err(why) => Err(Done::Frames(why)),
         }
     }
@@ -84,12 +93,37 @@ impl<R: Wait + Log, I: Input, S: Admitting, D: Replies, F: Flushed> Caller<'_, R
     {
         let event = self.event()?;
         self.hear_voice(&event);
-        if let Err(why) = self.admitting.admit(self.rt, &event) {
+        let objection = self.objection_to(&event);
+        if let Err(why) = self.admitting.admit(self.rt, &event, objection) {
             drop(event);
+            if let NotAdmitted::Objected(objection) = why {
+                self.object(objection);
+            }
             return Err(Done::TurnedAway(why));
         }
-        self.place = self.route(&event);
+        self.place = self.begin_ask(&event);
         Ok(event)
+    }
+
+    // Why a retirement isn't brought to the node, if there is a reason.
+    fn objection_to(&self, event: &Event) -> Option<Objection> {
+        match event {
+            Event::Retire { node } => {
+                let is_silent = self.shared.is_silent(self.rt, *node);
+                objection_to(self.me, *node, self.is_guarded, is_silent)
+            }
+            _ => None,
+        }
+    }
+
+    // Tells the operator why a retirement isn't brought to the node.
+    fn object(&self, objection: Objection) {
+        let frame = objection_frame(objection);
+        match bytes_of(self.alloc, &frame) {
+            Ok(bytes) => self.connection.object(self.rt, bytes),
+            Err(_) => self.connection.give_up(),
+        }
+        drop(frame);
     }
 
     // Whatever becomes of it, what a node sends tells that it is there: over a connection that may bring it.
@@ -102,45 +136,42 @@ impl<R: Wait + Log, I: Input, S: Admitting, D: Replies, F: Flushed> Caller<'_, R
         }
     }
 
-    // The reply to an ask comes here, before the flusher can make it. The place of its route.
-    fn route(&self, event: &Event) -> Option<u64> {
-        match event {
-            Event::Ask {
-                session,
-                request,
-                ..
-            } => {
-                let connections = &self.shared.connections;
-                connections.route(self.rt, *session, *request, self.ticket)
-            }
-            _ => None,
+    // An ask is judged from now on, and its reply comes here, before the flusher can make it. The place of its route. One under
+    // number 0 is always refused.
+    fn begin_ask(&self, event: &Event) -> Option<u64> {
+        let ask = numbered_ask(event)?;
+        self.shared
+            .connections
+            .begin_ask(self.rt, &ask, self.ticket)
+    }
+
+    // An ask was judged. Whether it repeats its session's last request with another command.
+    fn end_ask(&self, event: &Event, verdict: Verdict) -> bool {
+        match numbered_ask(event) {
+            Some(ask) => self
+                .shared
+                .connections
+                .end_ask(self.rt, &ask, self.place, verdict),
+            None => false,
         }
     }
 
-    // An ask that was taken, now or before, leaves its session no older route. One that leaves nothing to wait for has none.
-    fn settle_route(&self, event: &Event, is_taken: bool) {
-        let Some(place) = self.place else {
-            return;
-        };
-        let connections = &self.shared.connections;
-        match event {
-            Event::Ask { session, .. } if is_taken => connections.take(self.rt, *session, place),
-            _ => connections.take_back(self.rt, place),
-        }
-    }
-
-    // What the answer to an event makes of its permit and its route, and whom it was news of.
-    fn note(&self, event: &Event, answer: &Result<Accepted, Refused>) {
+    // What the answer to an event makes of its permit and its route, and whom it was news of. Whether it repeats its session's last
+    // request with another command.
+    fn note(&self, event: &Event, answer: &Result<Accepted, Refused>) -> bool {
         match answer {
             Ok(_) => {
                 self.admission.accept();
-                self.settle_route(event, true);
+                self.end_ask(event, Verdict::Taken);
                 self.hear(event);
+                false
             }
             Err(refused) => {
-                self.shared.gauges.refuse(refused.why);
+                if !is_beat(event, refused.why) {
+                    self.shared.gauges.refuse(refused.why);
+                }
                 self.admission.release(self.rt);
-                self.settle_route(event, refused.why == Refusal::Repeat);
+                self.end_ask(event, verdict_of(refused.why))
             }
         }
     }
@@ -148,7 +179,16 @@ impl<R: Wait + Log, I: Input, S: Admitting, D: Replies, F: Flushed> Caller<'_, R
     // What an accepted event tells of the node that sent it, and what it asks.
     fn hear(&self, event: &Event) {
         match event {
-            Event::Ask { command, .. } => self.shared.gauges.ask(command),
+            Event::Leave => self.note_operator(Departure::Leave),
+            Event::Retire { node } => self.note_operator(Departure::Retire(*node)),
+            Event::Ask {
+                session,
+                request,
+                command,
+            } => {
+                self.shared.gauges.ask(command);
+                debug!(self.rt; "node {} takes request {} of session {} from {}", self.me.number(), request, session, self.address);
+            }
             Event::Deliver { from, message, .. } => self.meeting().hear(self.rt, *from, message),
             Event::Acked { peer, .. } => {
                 if self.shared.hear_ack(self.rt, *peer) {
@@ -159,6 +199,12 @@ impl<R: Wait + Log, I: Input, S: Admitting, D: Replies, F: Flushed> Caller<'_, R
         }
     }
 
+    // Notes what the operator asked, and from where.
+    fn note_operator(&self, departure: Departure) {
+        let from = self.address;
+        give_notice(self.rt, self.me, &Notice::Asked { departure, from });
+    }
+
     // What notes whom the connection brings news of.
     fn meeting(&self) -> Meeting<'_> {
         Meeting {
@@ -166,6 +212,7 @@ impl<R: Wait + Log, I: Input, S: Admitting, D: Replies, F: Flushed> Caller<'_, R
             channels: &self.shared.channels,
             known: &self.shared.known,
             address: self.address,
+            second: self.shared.seconds(),
         }
     }
 
@@ -226,14 +273,43 @@ impl<R: Wait + Log, I: Input, S: Admitting, D: Replies, F: Flushed> Source
     }
 
     fn told(&mut self, event: Event, answer: Result<Accepted, Refused>) {
-        self.note(&event, &answer);
-        let duty = duty_of(&event, &answer);
+        let differs = self.note(&event, &answer);
+        let duty = duty_of(&event, &answer, differs);
         if self.act(duty, answer) {
             drop(self.due.replace(event));
         } else {
             drop(event);
             drop(self.due.take());
         }
+    }
+}
+
+// An ask that may be taken in: of another event, and of an ask under number 0, None.
+fn numbered_ask(event: &Event) -> Option<Asked> {
+    match event {
+        Event::Ask {
+            session,
+            request,
+            command,
+        } if *request > 0 => Some(Asked {
+            session: *session,
+            request: *request,
+            command: *command,
+        }),
+        _ => None,
+    }
+}
+
+// Whether it is no more than a sign of life: an acknowledgement that tells nothing new, which counts as no refusal.
+fn is_beat(event: &Event, why: Refusal) -> bool {
+    matches!((event, why), (Event::Acked { .. }, Refusal::NothingToAck))
+}
+
+// What became of an ask that is refused for that.
+fn verdict_of(why: Refusal) -> Verdict {
+    match why {
+        Refusal::Repeat => Verdict::Repeat,
+        _ => Verdict::Refused,
     }
 }
 
@@ -269,6 +345,7 @@ pub fn serve<R: Wait + Log, H: Hooks, L: Life, Q: Lane, I: Input + Drop, S: Admi
         connection,
         ticket,
         frames,
+        is_guarded: false,
         place: None,
         due: None,
         done: Done::NoMemory,

@@ -1,5 +1,6 @@
 //! The flusher's thread.
 
+use crate::known::Stranger;
 use crate::looking::{Looks, look};
 use crate::notes::Note;
 use crate::of_life::OfLife;
@@ -9,6 +10,7 @@ use cc_channels::{Admission, Durable, millis};
 use cc_flush::{CheckpointFault, Failed};
 use cc_intake::{Lane, Life, Queue, Turner};
 use cc_journal::Batch;
+use cc_messages::Event;
 use cc_site::Site;
 use crossbeam_utils::sync::Parker;
 use std::alloc::Global;
@@ -55,16 +57,16 @@ pub fn flush_all<S: Site, L: Life, Q: Lane, R: Wait + Clock>(
         if events > 0 {
             tally.commit(events);
         }
-        let is_wished = grant(rt, turner, watch.shared)?;
+        let is_wished = grant_all(rt, turner, admission, watch.shared)?;
         is_fresh &= events == 0;
         let is_tick = watch.shared.ticked.take();
         if is_tick {
-            admission.tick(rt);
             resend(turner, watch.shared)?;
             if !is_fresh {
                 is_fresh = spare(rt, turner, watch.shared, &mut tally, &mut begun)?;
             }
             pass_second(rt, turner, watch, &mut tally);
+            enter(rt, turner, watch.shared);
         }
         let core = turner.engine().twin().core();
         look(rt, core, watch.shared, &mut looks, is_tick);
@@ -91,8 +93,30 @@ fn pass_second<S: Site, L: Life, Q: Lane, R: Wait>(
     if slowest >= SLOW_US {
         watch.shared.notes.put(rt, Note::SlowSync(slowest));
     }
+    note_strangers(rt, watch.shared);
     tally.pass_second(rt, engine.twin().core(), watch.shared);
     show(rt, watch.alloc, engine, tally, watch.shared);
+}
+
+// Notes which nodes were heard of that still aren't among the peers.
+fn note_strangers<R: Wait>(rt: &R, shared: &Shared) {
+    for _ in 0..MOST_WISHES {
+        let Some(stranger) = shared.known.next_stranger(rt, shared.seconds()) else {
+            return;
+        };
+        if shared.channel_to(stranger.node).is_none() {
+            let Stranger { node, from, .. } = stranger;
+            shared.notes.put(rt, Note::Stranger(node, from));
+        }
+    }
+}
+
+// Has the node enter, once more where it was refused for want of memory.
+fn enter<S: Site, L: Life, Q: Lane, R: Wait>(rt: &R, turner: &Turner<S, L, Q>, shared: &Shared) {
+    let core = turner.engine().twin().core();
+    if !core.churn().has_entered(core.me()) {
+        shared.own.put(rt, Event::Enter);
+    }
 }
 
 // A turn. How many events it flushed, whose permits are free then.
@@ -108,6 +132,21 @@ fn turn<S: Site, L: Life, Q: Lane, R: Wait>(
         admission.turned(rt, events, flushed, turner.engine().twin());
     }
     Ok(events)
+}
+
+// Grants wishes that wait, and tells who waits for that. Whether there may be more.
+fn grant_all<S: Site, L: Life, Q: Lane, R: Wait>(
+    rt: &R,
+    turner: &mut Turner<S, L, Q>,
+    admission: &Admission<OfLife<L>>,
+    shared: &Shared,
+) -> Result<bool, Failed> {
+    let made = shared.grants.made();
+    let is_wished = grant(rt, turner, shared)?;
+    if !is_wished && shared.grants.grant(made) {
+        admission.granted(rt);
+    }
+    Ok(is_wished)
 }
 
 // Grants wishes that wait. Whether there may be more.

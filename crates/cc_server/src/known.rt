@@ -4,12 +4,27 @@ use cc_node::Core;
 use cc_views::NodeId;
 use std::alloc::Global;
 use std::collections::BTreeMap;
+use std::net::SocketAddr;
 use std::sync::{Mutex, Wait};
 
-/// The nodes that were heard of, by their numbers.
+// After so many seconds a node that is none of the peers yet is a stranger: its line in their file may be new.
+const STRANGE_SECONDS: u64 = 5;
+
+/// A node that was heard of, and isn't one of the peers.
+#[derive(Clone, Copy)]
+pub struct Stranger {
+    pub node: NodeId,
+    /// Where it was heard of from.
+    pub from: SocketAddr,
+    // From which second on it is one.
+    due: u64,
+}
+
+/// The nodes that were heard of, by their numbers, and those that may be strangers.
 #[derive(Drop)]
 pub struct Known {
     numbers: Mutex<BTreeMap<u32, ()>>,
+    strangers: Mutex<Vec<Stranger>>,
 }
 
 impl Known {
@@ -17,6 +32,7 @@ impl Known {
     pub fn new(alloc: Global) -> Self {
         Known {
             numbers: Mutex::new(BTreeMap::new(alloc)),
+            strangers: Mutex::new(Vec::new(alloc)),
         }
     }
 
@@ -38,5 +54,23 @@ impl Known {
         for link in core.links().rows() {
             self.learn(rt, link.peer);
         }
+    }
+
+    /// At that second a node was heard of, for the first time, that isn't one of the peers. Where there is no memory nobody is told of
+    /// it.
+    pub fn suspect<R: Wait>(&self, rt: &R, node: NodeId, from: SocketAddr, second: u64) {
+        let due = second.saturating_add(STRANGE_SECONDS);
+        drop(self.strangers.lock(rt).push(Stranger { node, from, due }));
+    }
+
+    /// One that is a stranger by that second, if it still isn't one of the peers. Each is given once.
+    pub fn next_stranger<R: Wait>(&self, rt: &R, second: u64) -> Option<Stranger> {
+        let mut strangers = self.strangers.lock(rt);
+        let first = strangers.first().copied()?;
+        if first.due > second {
+            return None;
+        }
+        drop(strangers.remove(0));
+        Some(first)
     }
 }

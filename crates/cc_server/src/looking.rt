@@ -15,6 +15,8 @@ use std::sync::Wait;
 pub struct Looks {
     calls: Calls,
     lasting: Lasting,
+    // How many seconds had passed at the last tick that it saw.
+    seconds: u64,
 }
 
 impl Looks {
@@ -23,6 +25,7 @@ impl Looks {
         Looks {
             calls: Calls::new(),
             lasting: Lasting::new(),
+            seconds: 0,
         }
     }
 }
@@ -31,8 +34,11 @@ impl Looks {
 /// lapses. It hands events in on the node's own channel, and waits for none of them.
 pub fn look<R: Wait>(rt: &R, core: &Core, shared: &Shared, looks: &mut Looks, is_tick: bool) {
     if is_tick {
-        let is_back = pass_second(rt, core, shared);
-        note_lasting(rt, shared, looks, wait_of(core.phase()));
+        let seconds = shared.seconds();
+        let passed = seconds.saturating_sub(looks.seconds);
+        looks.seconds = seconds;
+        let is_back = pass_second(rt, core, shared, passed);
+        note_lasting(rt, shared, looks, wait_of(core.phase()), passed);
         let is_held = shared.any_absent.is_set() || looks.lasting.is_long();
         if looks
             .calls
@@ -46,13 +52,13 @@ pub fn look<R: Wait>(rt: &R, core: &Core, shared: &Shared, looks: &mut Looks, is
     }
 }
 
-// A second has passed for all peers. Whether one that is absent was heard in it.
-fn pass_second<R: Wait>(rt: &R, core: &Core, shared: &Shared) -> bool {
+// So many seconds have passed for all peers, of which each is told that the node is there. Whether one that is absent was heard.
+fn pass_second<R: Wait>(rt: &R, core: &Core, shared: &Shared, seconds: u64) -> bool {
     let mut is_back = false;
     for link in core.links().rows() {
         if link.peer != core.me() {
             let passed = pass_link(rt, core, shared, link);
-            note_passed(rt, shared, link.peer, passed);
+            note_passed(rt, shared, link, passed, seconds);
             is_back |= passed.is_back;
         }
     }
@@ -68,10 +74,20 @@ fn pass_link<R: Wait>(rt: &R, core: &Core, shared: &Shared, link: &LinkRow) -> P
     standings.pass_second(link.peer, link.acked, sent, is_live)
 }
 
-// Tells the channel to a peer whether it is late, and notes that it is taken for absent.
-fn note_passed<R: Wait>(rt: &R, shared: &Shared, peer: NodeId, passed: Passed) {
+// Has a peer hear a sign of life, tells the channel to it whether it is behind, and notes that it is taken for absent. A peer that
+// was heard once and is silent is behind: its connection may be one that waits long until it sends again.
+fn note_passed<R: Wait>(
+    rt: &R,
+    shared: &Shared,
+    link: &LinkRow,
+    passed: Passed,
+    seconds: u64,
+) {
+    let peer = link.peer;
     if let Some(channel) = shared.channel_to(peer) {
-        channel.note_progress(passed.standing.is_late());
+        channel.beat(rt, link.heard);
+        let is_lost = channel.last_heard().is_some() && shared.is_silent(rt, peer);
+        channel.note_progress(passed.standing.is_late() || is_lost, seconds);
         if passed.is_taken {
             channel.put_absent(shared.now());
         }
@@ -81,10 +97,18 @@ fn note_passed<R: Wait>(rt: &R, shared: &Shared, peer: NodeId, passed: Passed) {
     }
 }
 
-// A second has passed for the operation that pends, if one does: what has been pending for long is noted, once.
-fn note_lasting<R: Wait>(rt: &R, shared: &Shared, looks: &mut Looks, pending: Option<Waiting>) {
+// So many seconds have passed for the operation that pends, if one does: what has been pending for long is noted, once.
+fn note_lasting<R: Wait>(
+    rt: &R,
+    shared: &Shared,
+    looks: &mut Looks,
+    pending: Option<Waiting>,
+    seconds: u64,
+) {
     let before = looks.lasting;
-    looks.lasting = before.after_second(name_of(pending));
+    for _ in 0..seconds.min(Lasting::LONG_SECONDS) {
+        looks.lasting = looks.lasting.after_second(name_of(pending));
+    }
     if let Some(waiting) = pending {
         if looks.lasting.is_long() && !before.is_long() {
             shared.notes.put(rt, Note::Pending(waiting));

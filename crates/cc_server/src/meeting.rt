@@ -5,7 +5,6 @@ use cc_changes::Changes;
 use cc_channels::PeerChannels;
 use cc_messages::Message;
 use cc_views::NodeId;
-use log::{Log, warn};
 use std::net::SocketAddr;
 use std::sync::Wait;
 
@@ -17,12 +16,14 @@ pub struct Meeting<'a> {
     pub known: &'a Known,
     /// Where the connection comes from.
     pub address: SocketAddr,
+    /// How many seconds have passed since the start.
+    pub second: u64,
 }
 
 impl Meeting<'_> {
     /// A message of that node was accepted. A node that it is of or tells of, that isn't one of the peers and that none of
-    /// them told of, is noted on standard error, once.
-    pub fn hear<R: Wait + Log>(&self, rt: &R, from: NodeId, message: &Message) {
+    /// them told of, may be a stranger.
+    pub fn hear<R: Wait>(&self, rt: &R, from: NodeId, message: &Message) {
         self.hear_of(rt, from, from);
         if let Some(node) = subject_of(message) {
             self.hear_of(rt, from, node);
@@ -41,17 +42,13 @@ impl Meeting<'_> {
         }
     }
 
-    fn hear_of<R: Wait + Log>(&self, rt: &R, from: NodeId, node: NodeId) {
+    fn hear_of<R: Wait>(&self, rt: &R, from: NodeId, node: NodeId) {
         if node == self.me || self.is_peer(node) || !self.known.learn(rt, node) {
             return;
         }
         if !self.is_peer(from) {
-            self.note(rt, node);
+            self.known.suspect(rt, node, self.address, self.second);
         }
-    }
-
-    fn note<R: Log>(&self, rt: &R, node: NodeId) {
-        warn!(rt; "node {} heard of node {}, which is none of its peers, from {}", self.me.number(), node.number(), self.address);
     }
 
     fn is_peer(&self, node: NodeId) -> bool {

@@ -40,6 +40,8 @@ pub enum Note {
     Left,
     /// So many sessions are served, of 256 in its life.
     Sessions(usize),
+    /// A node was heard of from there, and is none of the peers.
+    Stranger(NodeId, SocketAddr),
     /// A call on the file of a side failed, for that reason.
     DiskFault(Side, io::Error),
 }
@@ -84,8 +86,11 @@ impl Note {
     fn level(&self) -> Level {
         match self {
             Note::DiskFault(..) => Level::Error,
-            Note::Absent(_) | Note::Pending(_) | Note::SlowSync(_) | Note::Sessions(_) =>
-                Level::Warn,
+            Note::Absent(_)
+            | Note::Pending(_)
+            | Note::SlowSync(_)
+            | Note::Sessions(_)
+            | Note::Stranger(..) => Level::Warn,
             Note::Moved { .. } | Note::Joined | Note::Left => Level::Info,
         }
     }
@@ -115,6 +120,11 @@ impl fmt::Display for Noted<'_> {
             Note::Joined => f.write_str("has joined"),
             Note::Left => f.write_str("has left"),
             Note::Sessions(count) => write!(f, "serves {count} sessions, of 256 in its life"),
+            Note::Stranger(node, from) => write!(
+                f,
+                "heard of node {}, which is none of its peers, from {from}",
+                node.number()
+            ),
             Note::DiskFault(side, why) => write!(
                 f,
                 "can't go on: {}/{}: {why}",
@@ -134,6 +144,15 @@ fn print_pending<W: fmt::Write>(f: &mut fmt::Formatter<W>, waiting: Waiting) -> 
     )
 }
 
+/// What the operator asked of a node.
+#[derive(Clone, Copy)]
+pub enum Departure {
+    /// That it leaves.
+    Leave,
+    /// That this node is retired.
+    Retire(NodeId),
+}
+
 /// What a node notes of its share, its peers and their file, by whoever sees it.
 #[derive(Clone, Copy)]
 pub enum Notice<'a> {
@@ -151,6 +170,11 @@ pub enum Notice<'a> {
     Elsewhere(NodeId, SocketAddr),
     /// A peer has no line in the file of the peers any more.
     Unlisted(NodeId),
+    /// The operator asked that, from there, and it is done.
+    Asked {
+        departure: Departure,
+        from: SocketAddr,
+    },
     /// The file of the peers isn't taken, since one line isn't as it should be, or two are of one node, or it can't be read.
     NotTaken { file: &'a str, why: &'a str },
 }
@@ -158,10 +182,13 @@ pub enum Notice<'a> {
 impl Notice<'_> {
     fn level(&self) -> Level {
         match self {
-            Notice::Back(_) | Notice::Share(_) | Notice::Added(..) | Notice::Elsewhere(..) =>
-                Level::Info,
-            Notice::Unreachable(_)
+            Notice::Back(_)
+            | Notice::Share(_)
+            | Notice::Added(..)
+            | Notice::Elsewhere(..)
             | Notice::Unknown(_)
+            | Notice::Asked { .. } => Level::Info,
+            Notice::Unreachable(_)
             | Notice::Unlisted(_)
             | Notice::NotTaken { .. } => Level::Warn,
         }
@@ -194,10 +221,24 @@ impl fmt::Display for Notice<'_> {
                 "keeps node {} among its peers until it is started again: its line is gone",
                 peer.number()
             ),
+            Notice::Asked { departure, from } => print_departure(f, departure, from),
             Notice::NotTaken { file, why } => write!(
                 f,
                 "keeps its peers as they are: {file} {why}"
             ),
+        }
+    }
+}
+
+fn print_departure<W: fmt::Write>(
+    f: &mut fmt::Formatter<W>,
+    departure: Departure,
+    from: SocketAddr,
+) -> fmt::Result {
+    match departure {
+        Departure::Leave => write!(f, "was told from {from} that it leaves"),
+        Departure::Retire(node) => {
+            write!(f, "was told from {from} that node {} is retired", node.number())
         }
     }
 }

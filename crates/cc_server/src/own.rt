@@ -69,7 +69,7 @@ impl<R: Wait, F: Flushed> Source for Own<'_, R, F> {
     }
 
     fn told(&mut self, event: Event, answer: Result<Accepted, Refused>) {
-        let duty = duty_of(&event, &answer);
+        let duty = duty_of(&event, &answer, false);
         self.settle(answer);
         if self.act(duty) {
             drop(self.due.replace(event));

@@ -19,6 +19,9 @@ pub trait Replies {
     )
         requires { refused.accepted ≤ durable };
 
+    /// Tells the operator why his request isn't brought to the node, by the bytes of its frame. May wait for room.
+    fn object<R: Wait>(&self, rt: &R, bytes: Vec<u8>);
+
     /// An answer is lost for want of memory: its client has to ask again, over another connection.
     fn give_up(&self);
 }
@@ -33,6 +36,10 @@ impl Replies for Connection {
     )
         requires { refused.accepted ≤ durable }
     {
+        self.pass_in_turn(rt, bytes);
+    }
+
+    fn object<R: Wait>(&self, rt: &R, bytes: Vec<u8>) {
         self.pass_in_turn(rt, bytes);
     }
 

@@ -4,12 +4,12 @@ use crate::known::Known;
 use crate::notes::{Note, NoteChannel, note_channel};
 use crate::run_fault::RunFault;
 use cc_channels::{
-    Connections, FarEnd, Flag, OwnChannel, PeerChannel, PeerChannels, Waker, channels_to,
+    Connections, FarEnd, Flag, Grants, OwnChannel, PeerChannel, PeerChannels, Waker, channels_to,
     own_channel,
 };
 use cc_frames::Peer;
 use cc_messages::Event;
-use cc_protocol::{Standings, Wishes};
+use cc_protocol::{Standings, Wishes, is_silent};
 use cc_views::{NoMemory, NodeId};
 use cc_watch::{Board, Gauges};
 use crossbeam_channel::Receiver;
@@ -30,6 +30,8 @@ pub struct Shared {
     /// The nodes that were heard of.
     pub known: Known,
     pub wishes: Mutex<Wishes>,
+    /// Which wishes of sessions were granted.
+    pub grants: Grants,
     /// How its peers stand, and whether one is absent.
     pub standings: Mutex<Standings>,
     pub any_absent: Flag,
@@ -38,8 +40,11 @@ pub struct Shared {
     /// What is counted, and where it is laid out what the node shows, if anybody may look.
     pub gauges: Gauges,
     pub board: Option<Board>,
-    // The moment of the last tick, in milliseconds since 1970.
+    // The moment of the last tick, in milliseconds since 1970, and by the clock that never goes back.
     now: AtomicU64,
+    monotonic_now: AtomicU64,
+    // How many seconds have passed since the start.
+    seconds: AtomicU64,
     /// A second has passed.
     pub ticked: Flag,
     /// No worker is left.
@@ -179,12 +184,15 @@ impl Shared {
             waker,
             known: Known::new(alloc),
             wishes: Mutex::new(wishes),
+            grants: Grants::new(),
             standings: Mutex::new(standings),
             any_absent: Flag::new(),
             notes,
             gauges,
             board,
             now: AtomicU64::new(now),
+            monotonic_now: AtomicU64::new(1),
+            seconds: AtomicU64::new(0),
             ticked: Flag::new(),
             done: Flag::new(),
             ended: Flag::new(),
@@ -197,11 +205,31 @@ impl Shared {
         self.now.load(Ordering::SeqCst)
     }
 
-    /// A second has passed, and it is that moment.
-    pub fn tick(&self, now: u64) {
+    /// A second has passed, and it is that moment: in milliseconds since 1970, and by the clock that never goes back.
+    pub fn tick(&self, now: u64, monotonic_now: u64) {
         self.now.store(now, Ordering::SeqCst);
+        self.monotonic_now.store(monotonic_now, Ordering::SeqCst);
+        self.seconds.fetch_add(1, Ordering::SeqCst);
         self.ticked.set();
         self.waker.wake();
+    }
+
+    /// How many seconds have passed since the start.
+    pub fn seconds(&self) -> u64 {
+        self.seconds.load(Ordering::SeqCst)
+    }
+
+    /// Whether a peer is silent, as it was at the last tick.
+    pub fn is_silent<R: Wait>(&self, rt: &R, peer: NodeId) -> bool {
+        let has_speaker = self.connections.has_speaker(rt, peer);
+        let heard = self.channel_to(peer).and_then(PeerChannel::last_heard);
+        is_silent(has_speaker, heard, self.monotonic_now.load(Ordering::SeqCst))
+    }
+
+    /// A moment of the clock that never goes back, in milliseconds since 1970.
+    pub fn since_1970(&self, monotonic: u64) -> u64 {
+        let age = self.monotonic_now.load(Ordering::SeqCst).saturating_sub(monotonic);
+        self.now().saturating_sub(age)
     }
 
     /// The channel to a peer.
@@ -218,7 +246,7 @@ impl Shared {
     /// A frame of that peer came. How it stands is looked at only while a peer is absent.
     pub fn hear_voice<R: Wait>(&self, rt: &R, peer: NodeId) {
         if let Some(channel) = self.channel_to(peer) {
-            channel.hear(self.now());
+            channel.hear(self.monotonic_now.load(Ordering::SeqCst));
         }
         if self.any_absent.is_set() {
             self.standings.lock(rt).note_voice(peer);
@@ -236,6 +264,7 @@ impl Shared {
     /// Has the flusher put out the last answer of a session again.
     pub fn again<R: Wait>(&self, rt: &R, session: u64) {
         self.wishes.lock(rt).again(session);
+        self.grants.make();
         self.waker.wake();
     }
 }

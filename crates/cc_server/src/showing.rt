@@ -10,7 +10,7 @@ use cc_node::Core;
 use cc_protocol::AskName;
 use cc_site::Site;
 use cc_status::{BATCH_BOUNDS, Counted, DiskShown, PeerNote, Shown};
-use cc_views::NoMemory;
+use cc_views::{NoMemory, NodeId};
 use cc_watch::Laid;
 use std::alloc::Global;
 use std::sync::Wait;
@@ -165,12 +165,12 @@ fn peer_notes<R: Wait>(
 ) -> Result<Vec<PeerNote>, NoMemory> {
     let mut notes = Vec::new(alloc);
     for link in core.links().rows() {
-        notes.push(peer_note(rt, shared, link))?;
+        notes.push(peer_note(rt, shared, core.me(), link))?;
     }
     Ok(notes)
 }
 
-fn peer_note<R: Wait>(rt: &R, shared: &Shared, link: &LinkRow) -> PeerNote {
+fn peer_note<R: Wait>(rt: &R, shared: &Shared, me: NodeId, link: &LinkRow) -> PeerNote {
     let is_absent = shared.standings.lock(rt).standing(link.peer).is_absent();
     let channel = shared.channel_to(link.peer);
     let since = channel.and_then(PeerChannel::absent_since);
@@ -183,6 +183,9 @@ fn peer_note<R: Wait>(rt: &R, shared: &Shared, link: &LinkRow) -> PeerNote {
         } else {
             None
         },
-        last_heard: channel.and_then(PeerChannel::last_heard),
+        last_heard: channel
+            .and_then(PeerChannel::last_heard)
+            .map(|heard| shared.since_1970(heard)),
+        is_silent: link.peer != me && shared.is_silent(rt, link.peer),
     }
 }

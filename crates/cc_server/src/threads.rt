@@ -11,7 +11,7 @@ use crate::notes::{Note, write_notes};
 use crate::of_life::OfLife;
 use crate::own::serve_own;
 use crate::shared::{Inlets, Shared};
-use cc_channels::{Admission, FarEnd, Flag, Stop, millis, write_peer};
+use cc_channels::{Admission, FarEnd, Flag, Flushed, Stop, millis, monotonic_millis, write_peer};
 use cc_flush::Failed;
 use cc_intake::{Hooks, Lane, Life, Queue, Turner};
 use cc_messages::Event;
@@ -98,7 +98,7 @@ where
             requires { IsSend L.row × IsSend Q.row }
         {
             scope
-                .spawn(move || tick_until(rt, shared, listeners, stop))
+                .spawn(move || tick_until(rt, shared, admission, listeners, stop))
                 .ok()?;
             if let Some(pages) = &listeners.pages {
                 let _ = scope.spawn(move || show_until(context, pages));
@@ -147,16 +147,19 @@ where
     is_served
 }
 
-// Ticks until all is done. Once it is to end, each tick wakes the acceptors too.
-fn tick_until<R: Wait + Clock + Net<Stream = TcpStream>>(
+// Ticks until all is done, whatever the flusher waits for: so seconds are those of the clock. Once it is to end, each tick wakes the
+// acceptors too.
+fn tick_until<R: Wait + Clock + Net<Stream = TcpStream>, F: Flushed>(
     rt: &R,
     shared: &Shared,
+    admission: &Admission<F>,
     listeners: &Listeners,
     stop: &Stop,
 ) {
     for _ in rt.forever() {
         thread::sleep(rt, Duration::from_millis(TICK_MS));
-        shared.tick(millis(rt));
+        shared.tick(millis(rt), monotonic_millis(rt));
+        admission.tick(rt);
         if shared.done.is_set() {
             if let Some(pages) = &listeners.pages {
                 knock(rt, pages);

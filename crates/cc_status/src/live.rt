@@ -58,6 +58,8 @@ pub struct PeerNote {
     pub connected_since: Option<u64>,
     pub absent_since: Option<u64>,
     pub last_heard: Option<u64>,
+    /// Whether no open connection brings its frames, or none came for three seconds.
+    pub is_silent: bool,
 }
 
 /// What is known of a running node beside its state.

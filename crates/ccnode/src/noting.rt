@@ -1,5 +1,6 @@
 //! The runtime of a node, whose log is of a level of its own.
 
+use crate::lines::Lines;
 use cc_orders::LogLevel;
 use cc_server::ReadText;
 use jiff::Timestamp;
@@ -9,13 +10,13 @@ use log::{Level, Line, Log, Logged, Metadata, Record};
 use std::alloc::{Allocator, Global};
 use std::fmt::Display;
 use std::fs::{Files, Metadata as Attributes, OpenOptions};
-use std::io;
+use std::{fmt, io};
 use std::net::{Net, SocketAddr};
 use std::sync::Wait;
 use std::thread::Threads;
 use std::time::{Clock, Duration};
 
-/// A runtime, and a log on its standard error. It passes on each call of the runtime that a node makes: `Logged` alone makes no
+/// A runtime, and a log on its standard error, for which no caller waits. It passes on each call of the runtime that a node makes: `Logged` alone makes no
 /// connection within a time.
 #[derive(Drop)]
 pub struct NotingRuntime<'a, R> {
@@ -27,6 +28,7 @@ pub struct NotingRuntime<'a, R> {
 #[derive(Clone, Copy)]
 struct TimedConsole<'a, R> {
     rt: &'a R,
+    lines: &'a Lines,
     has_times: bool,
 }
 
@@ -41,17 +43,17 @@ impl<R: Clock> TimedConsole<'_, R> {
     }
 }
 
-impl<R: Eprint + Clock> Log for TimedConsole<'_, R> {
+impl<R: Wait + Clock> Log for TimedConsole<'_, R> {
     fn enabled(&self, _metadata: &Metadata<'_>) -> bool {
         true
     }
 
     fn log<D: Display, K: Source, S: Spans>(&self, record: &Record<'_, D, K, S>) {
         let line = Line::new(record);
-        let _ = match self.time() {
-            Some(time) => eprintln!(self.rt; "{time} {line}"),
-            None => eprintln!(self.rt; "{line}"),
-        };
+        match self.time() {
+            Some(time) => self.lines.put(self.rt, &Timed { time, line: &line }),
+            None => self.lines.put(self.rt, &line),
+        }
     }
 
     fn flush(&self) {}
@@ -61,9 +63,22 @@ impl<R: Eprint + Clock> Log for TimedConsole<'_, R> {
     }
 }
 
+// A line behind its time.
+#[derive(Clone, Copy)]
+struct Timed<'a, D> {
+    time: Timestamp,
+    line: &'a D,
+}
+
+impl<D: Display> Display for Timed<'_, D> {
+    fn fmt<W: fmt::Write>(&self, f: &mut fmt::Formatter<W>) -> fmt::Result {
+        write!(f, "{} {}", self.time, self.line)
+    }
+}
+
 impl<'a, R> NotingRuntime<'a, R> {
-    /// That runtime, which notes what is of this level, and of those before it, each with its time or without.
-    pub fn new(rt: &'a R, level: LogLevel, has_times: bool) -> Self {
+    /// That runtime, which notes what is of this level, and of those before it, each with its time or without, on these lines.
+    pub fn new(rt: &'a R, lines: &'a Lines, level: LogLevel, has_times: bool) -> Self {
         let level = match level {
             LogLevel::Error => Level::Error,
             LogLevel::Warn => Level::Warn,
@@ -72,12 +87,20 @@ impl<'a, R> NotingRuntime<'a, R> {
         };
         NotingRuntime {
             rt,
-            log: Logged::new(rt, level, TimedConsole { rt, has_times }),
+            log: Logged::new(
+                rt,
+                level,
+                TimedConsole {
+                    rt,
+                    lines,
+                    has_times,
+                },
+            ),
         }
     }
 }
 
-impl<R: Eprint + Clock> Log for NotingRuntime<'_, R> {
+impl<R: Wait + Clock> Log for NotingRuntime<'_, R> {
     fn enabled(&self, metadata: &Metadata<'_>) -> bool {
         self.log.enabled(metadata)
     }

@@ -1,22 +1,27 @@
 //! A node that runs.
 
 use crate::folder::{print_lost, print_trouble};
+use crate::machinery::Machinery;
 use crate::{BAD_COMMAND_LINE, FAULT, print_word_fault};
 use cc_arguments::VERSION;
 use cc_channels::Stop;
-use cc_commands::node_in_folder;
+use cc_checkpoint::OpenFault;
+use cc_commands::{Trouble, Wrong, node_in_folder};
 use cc_intake::NoHooks;
 use cc_orders::{RunOrder, RunWords, WordFault};
 use cc_server::{Config, ReadText, RunFault, run_node};
 use cc_views::NodeId;
+use crossbeam_channel::bounded;
 use log::Log;
+use std::alloc::AllocError;
 use std::fs;
 use std::fs::{File, Files};
 use std::net::{Net, TcpListener, TcpStream};
 use std::process::ExitCode;
 use std::sync::Wait;
+use std::thread;
 use std::thread::Threads;
-use std::time::Clock;
+use std::time::{Clock, Duration};
 
 /// Runs the node of a folder, on a machine with a log of its own: the status of that.
 pub fn run<R, N>(
@@ -26,7 +31,7 @@ pub fn run<R, N>(
     words: &RunWords<'_>,
 ) -> anyhow::Result<ExitCode>
 where
-    R: Files<File = File> + AllocGlobal + Print + Eprint,
+    R: Files<File = File> + Machinery,
     N: Files<File = File>
         + Net<Listener = TcpListener, Stream = TcpStream>
         + Threads
@@ -57,7 +62,7 @@ fn run_with<R, N>(
     file: Option<(&str, &str)>,
 ) -> anyhow::Result<ExitCode>
 where
-    R: Files<File = File> + AllocGlobal + Print + Eprint,
+    R: Files<File = File> + Machinery,
     N: Files<File = File>
         + Net<Listener = TcpListener, Stream = TcpStream>
         + Threads
@@ -92,6 +97,15 @@ fn print_order_fault<R: Eprint>(
     }
 }
 
+// How often it is looked whether another program still holds the folder, and how long a pause is between two looks, in
+// milliseconds: `dump` holds it for a moment.
+const LOOKS: u64 = 10;
+
+const PAUSE_MS: u64 = 100;
+
+// How long the fault that ended the node waits for who reads standard output, in milliseconds.
+const FAULT_MS: u64 = 500;
+
 // Runs the node, with its peers from that file, if there is one: its own line is passed over there, so that one file serves
 // all nodes.
 fn run_as<R, N>(
@@ -102,7 +116,7 @@ fn run_as<R, N>(
     peers_file: Option<&str>,
 ) -> anyhow::Result<ExitCode>
 where
-    R: Files<File = File> + AllocGlobal + Print + Eprint,
+    R: Files<File = File> + Machinery,
     N: Files<File = File>
         + Net<Listener = TcpListener, Stream = TcpStream>
         + Threads
@@ -116,8 +130,18 @@ where
         drop(order);
         return Err(error);
     }
+    if let Err(error) = wait_for_folder(rt, machine, folder) {
+        drop(order);
+        return Err(error.into());
+    }
     let own = match peers_file {
-        Some(_) => node_in_folder(rt, rt.alloc(), folder),
+        Some(_) => match node_in_folder(rt, rt.alloc(), folder) {
+            Ok(node) => Some(node),
+            Err(fault) => {
+                drop(order);
+                return print_run_fault(rt, folder, fault.into());
+            }
+        },
         None => None,
     };
     let config = config_of(folder, order, own, peers_file);
@@ -127,6 +151,27 @@ where
         Ok(_) => Ok(ExitCode::SUCCESS),
         Err(fault) => print_run_fault(rt, folder, fault),
     }
+}
+
+// Waits for a second at most while another program holds the folder.
+fn wait_for_folder<R, N>(rt: &R, machine: &N, folder: &str) -> Result<(), AllocError>
+where
+    R: Files<File = File> + AllocGlobal,
+    N: Clock,
+{
+    for _ in 0..LOOKS {
+        let trouble = Trouble::at(rt, rt.alloc(), folder)?;
+        let is_held = match &trouble {
+            Some(trouble) => trouble.wrong == Wrong::Held,
+            None => false,
+        };
+        drop(trouble);
+        if !is_held {
+            break;
+        }
+        thread::sleep(machine, Duration::from_millis(PAUSE_MS));
+    }
+    Ok(())
 }
 
 // What a node is run with: what an order has of it, without that node among its peers.
@@ -160,18 +205,36 @@ fn config_of<'a>(
     }
 }
 
-// Prints why the node doesn't run, or has ended. A node among its own peers is a fault of the command line.
-fn print_run_fault<R: Files<File = File> + AllocGlobal + Print + Eprint>(
-    rt: &R,
-    folder: &str,
-    fault: RunFault,
-) -> anyhow::Result<ExitCode> {
+// Prints why the node doesn't run, or has ended, and what to do about it. A node among its own peers is a fault of the command line.
+fn print_run_fault<R>(rt: &R, folder: &str, fault: RunFault) -> anyhow::Result<ExitCode>
+where
+    R: Files<File = File> + Machinery,
+{
     if fault == RunFault::OwnPeer {
         return print_word_fault(rt, WordFault::PeerItself);
     }
-    println!(rt; "{fault}")?;
-    if matches!(fault, RunFault::Open(_)) {
+    print_in_time(rt, fault)?;
+    if let RunFault::Open(opening) = fault {
+        if opening == OpenFault::NotFormatted {
+            eprintln!(rt; "ccnode: {folder}: not formatted: see ccnode format --help")?;
+        }
         print_trouble(rt, folder)?;
     }
     Ok(ExitCode::from(FAULT))
+}
+
+// Prints a fault by a thread of its own, and waits for a moment: where nobody reads standard output the program ends without it.
+fn print_in_time<R: Machinery>(rt: &R, fault: RunFault) -> anyhow::Result<()> {
+    let (done, printed) = bounded(rt.alloc(), 1)?;
+    let machine = *rt;
+    let is_made = thread::spawn(rt, move || {
+        let _ = println!(machine; "{fault}");
+        let _ = done.try_send(&machine, ());
+    })
+    .is_ok();
+    if is_made {
+        let _ = printed.recv_timeout(rt, Duration::from_millis(FAULT_MS));
+    }
+    drop(printed);
+    Ok(())
 }
