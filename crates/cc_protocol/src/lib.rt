@@ -26,8 +26,8 @@ pub use admission::{
     is_furthest_behind, is_given_up, may_hand_over, what_needs_no_room_makes_no_post,
 };
 pub use asking::{
-    Client, Heard, Step, asks_under_one_number, number_zero_tells_the_last, refusal_of,
-    refusals_are_told,
+    Client, Heard, Stage, Step, a_reading_comes_first, asks_under_one_number,
+    number_zero_tells_the_last, refusal_of, refusals_are_told,
 };
 pub use bundle::{Bundle, Parcel};
 pub use calling::{Calls, snapshots_keep_apart};
@@ -38,7 +38,8 @@ pub use last_asks::LastAsks;
 pub use lasting::{AskName, Lasting};
 pub use objecting::objection_to;
 pub use operating::{
-    Objection, Outcome, objection_frame, objections_are_told, outcome_of, second_request_is_left,
+    Lefts, Objection, Outcome, Retirement, a_retirement_is_told, objection_frame,
+    objections_are_told, outcome_of, probe_frame, second_request_is_left,
 };
 pub use origin::{Access, Admitted, Origin};
 pub use route::Route;

@@ -1,17 +1,20 @@
 //! What the operator's request to leave, or to retire a node, came to.
 
-ghost use Rattle.std.specs.Prelude.{◌≡◌, ℕ, Some};
+ghost use Rattle.std.specs.Prelude.{◌≡◌, ℕ, Some, None};
 ghost use Rattle.cc_protocol.specs.Asking.{refusal_told};
 ghost use Rattle.cc_messages.specs.declared.event.Event.TheVariants as event;
 ghost use Rattle.cc_messages.specs.declared.refusal.Refusal.TheVariants as refusal;
 ghost use Rattle.cc_node.specs.Core.{Core, next};
 ghost use Rattle.cc_node.specs.Refusals.{decides};
-ghost use Rattle.cc_protocol.specs.Operating.{objection_number, objection_told, objection_frame, outcome_told, outcome_numbered, outcome_in};
+ghost use Rattle.cc_protocol.specs.Operating.{objection_number, objection_told, objection_frame, outcome_told, outcome_numbered, outcome_in, probe_frame};
+ghost use Rattle.cc_protocol.specs.Operating.{nothing_heard, after_clue, settled, verdict_of, one_more, clue_in, clue_of, request_clue, probe_clue};
+ghost use Rattle.cc_protocol.specs.Operating.{retirement_after, verdict_after, verdict_at_end, verdict_along, told_of};
+ghost use Rattle.cc_node.specs.Refusals as reason;
 ghost use Rattle.cc_protocol.specs.declared.operating.Outcome.TheVariants as outcome;
 
 use crate::asking::refusal_of;
 use cc_frames::Frame;
-use cc_messages::Refusal;
+use cc_messages::{Command, Refusal};
 
 /// Why the server of a node doesn't hand a retirement to its node, which would accept it.
 #[derive(Clone, Copy, PartialEq, Eq)]
@@ -109,8 +112,181 @@ pub fn objections_are_told()
     ensures { (why : Objection) → outcome_in (objection_frame why) ≡ Some (outcome.Objected why) }
 {}
 
+/// What an operator has heard of a retirement. Its request is sent twice over one connection, and behind them a probe, which is
+/// refused as Left where the node itself has left.
+#[derive(Clone, Copy, PartialEq, Eq)]
+pub struct Retirement {
+    /// Which of the two requests were refused as Left.
+    pub lefts: Lefts,
+    /// Whether the probe was refused otherwise: the node hasn't left.
+    pub is_there: bool,
+}
+
+/// How many of two requests were refused as Left.
+#[derive(Clone, Copy, PartialEq, Eq)]
+pub enum Lefts {
+    Neither,
+    One,
+    Both,
+}
+
+// What a frame tells of a retirement.
+#[derive(Clone, Copy, PartialEq, Eq)]
+enum Clue {
+    // A request is refused as Left.
+    Left,
+    // The node hasn't left.
+    There,
+    // What the retirement came to.
+    Decided(Outcome),
+    // It is about something else.
+    Nothing,
+}
+
+// The session of the probe.
+const PROBE_SESSION: u64 = u64::MAX;
+
+/// What is sent behind the two requests of a retirement: an ask under number 0, which is never taken.
+pub fn probe_frame() -> Frame
+    ensures { result ≡ probe_frame }
+{
+    Frame::Ask {
+        session: PROBE_SESSION,
+        request: 0,
+        command: Command::ReadFlag,
+    }
+}
+
+impl Retirement {
+    /// Nothing was heard yet.
+    pub fn new() -> Self
+        ensures { result ≡ nothing_heard }
+    {
+        Retirement {
+            lefts: Lefts::Neither,
+            is_there: false,
+        }
+    }
+
+    /// Takes a frame in that came: what the retirement came to, where that is known now. Done is that the node to be retired
+    /// counts as one that left, at a node that hasn't.
+    pub fn hear(&mut self, frame: &Frame) -> Option<Outcome>
+        ensures outcome { result ≡ verdict_after self.old frame.now }
+        ensures heard { self.new ≡ retirement_after self.old frame.now }
+    {
+        let clue = clue_in(frame);
+        self.note(clue);
+        self.verdict(clue)
+    }
+
+    /// What it came to where the connection ends first, as one does that a node has for operators alone. None where that isn't
+    /// known.
+    pub fn end(self) -> Option<Outcome>
+        ensures { result ≡ verdict_at_end self }
+    {
+        match self.lefts {
+            Lefts::One => Some(Outcome::Done),
+            Lefts::Neither | Lefts::Both => None,
+        }
+    }
+
+    fn note(&mut self, clue: Clue)
+        ensures { self.new ≡ after_clue self.old clue }
+    {
+        match clue {
+            Clue::Left => self.lefts = one_more(self.lefts),
+            Clue::There => self.is_there = true,
+            Clue::Decided(_) | Clue::Nothing => {}
+        }
+    }
+
+    fn verdict(&self, clue: Clue) -> Option<Outcome>
+        ensures { result ≡ verdict_of self.now clue }
+    {
+        match clue {
+            Clue::Decided(why) => Some(why),
+            Clue::Left | Clue::There => self.settled(),
+            Clue::Nothing => None,
+        }
+    }
+
+    fn settled(&self) -> Option<Outcome>
+        ensures { result ≡ settled self.now.lefts self.now.is_there }
+    {
+        match self.lefts {
+            Lefts::One | Lefts::Both if self.is_there => Some(Outcome::Done),
+            _ => None,
+        }
+    }
+}
+
+fn one_more(lefts: Lefts) -> Lefts
+    ensures { result ≡ one_more lefts }
+{
+    match lefts {
+        Lefts::Neither => Lefts::One,
+        Lefts::One | Lefts::Both => Lefts::Both,
+    }
+}
+
+fn clue_in(frame: &Frame) -> Clue
+    ensures { result ≡ clue_in frame.now }
+{
+    match frame {
+        Frame::Refused {
+            session,
+            request,
+            refusal,
+            value,
+        } => clue_of(*session, *request, *refusal, *value),
+        _ => Clue::Nothing,
+    }
+}
+
+fn clue_of(session: u64, request: u64, number: u8, value: u64) -> Clue
+    ensures { result ≡ clue_of session request number value }
+{
+    if session == 0 && request == 0 {
+        return request_clue(outcome_numbered(number, value));
+    }
+    if session == PROBE_SESSION && request == 0 {
+        return probe_clue(refusal_of(number, value));
+    }
+    Clue::Nothing
+}
+
+fn request_clue(told: Option<Outcome>) -> Clue
+    ensures { result ≡ request_clue told }
+{
+    match told {
+        Some(Outcome::Done) => Clue::Left,
+        Some(why) => Clue::Decided(why),
+        None => Clue::Nothing,
+    }
+}
+
+fn probe_clue(told: Option<Refusal>) -> Clue
+    ensures { result ≡ probe_clue told }
+{
+    match told {
+        Some(Refusal::Left) => Clue::Decided(Outcome::Refused(Refusal::Left)),
+        Some(_) => Clue::There,
+        None => Clue::Nothing,
+    }
+}
+
 /// Of two requests to leave, or to retire one node, the second is refused as Left.
 pub fn second_request_is_left()
     ensures leave { (c : Core) → decides (next c event.Leave) event.Leave ≡ Some refusal.Left }
     ensures retire { (c : Core) (node : ℕ) → decides (next c (event.Retire node)) (event.Retire node) ≡ Some refusal.Left }
+{}
+
+/// Of a retirement that comes twice, and the probe behind it, a node tells what the operator takes for the outcome: that the node
+/// itself has left; and else that the other one counts as one that left, where it takes the retirement or that one had left.
+pub fn a_retirement_is_told()
+    ensures left { (c : Core) (node : ℕ) → reason.left c ≡ Some refusal.Left → verdict_along nothing_heard (told_of c node) ≡ Some (outcome.Refused refusal.Left) }
+    ensures taken { (c : Core) (node : ℕ) → reason.left c ≡ None → ¬ (node ≡ c.me) → decides c (event.Retire node) ≡ None
+        → verdict_along nothing_heard (told_of c node) ≡ Some outcome.Done }
+    ensures gone { (c : Core) (node : ℕ) → reason.left c ≡ None → decides c (event.Retire node) ≡ Some refusal.Left
+        → verdict_along nothing_heard (told_of c node) ≡ Some outcome.Done }
 {}

@@ -8,9 +8,41 @@ pub const ASK: [u8; 24] = [
     0, 0, 0, 0x14, 3, 0, 0, 0, 0, 0, 0, 0, 7, 0, 0, 0, 0, 0, 0, 0, 1, 1, 1, 0x61,
 ];
 
-/// The same under number 0, by which a client learns the session's last request.
-pub const LEARN: [u8; 24] = [
-    0, 0, 0, 0x14, 3, 0, 0, 0, 0, 0, 0, 0, 7, 0, 0, 0, 0, 0, 0, 0, 0, 1, 1, 0x61,
+/// It reads the flag under number 0, by which a client learns the session's last request.
+pub const LEARN: [u8; 22] = [
+    0, 0, 0, 0x12, 3, 0, 0, 0, 0, 0, 0, 0, 7, 0, 0, 0, 0, 0, 0, 0, 0, 6,
+];
+
+/// It reads the flag under number 1, and is told that none is set.
+pub const FENCE: [u8; 22] = [
+    0, 0, 0, 0x12, 3, 0, 0, 0, 0, 0, 0, 0, 7, 0, 0, 0, 0, 0, 0, 0, 1, 6,
+];
+
+pub const FENCED: [u8; 23] = [
+    0, 0, 0, 0x13, 4, 0, 0, 0, 0, 0, 0, 0, 7, 0, 0, 0, 0, 0, 0, 0, 1, 4, 0,
+];
+
+/// The same under number 2, told that one is set.
+pub const SECOND_FENCE: [u8; 22] = [
+    0, 0, 0, 0x12, 3, 0, 0, 0, 0, 0, 0, 0, 7, 0, 0, 0, 0, 0, 0, 0, 2, 6,
+];
+
+pub const SECOND_FENCED: [u8; 23] = [
+    0, 0, 0, 0x13, 4, 0, 0, 0, 0, 0, 0, 0, 7, 0, 0, 0, 0, 0, 0, 0, 2, 4, 1,
+];
+
+/// It stores `a` under number 2, and under number 3.
+pub const SECOND_ASK: [u8; 24] = [
+    0, 0, 0, 0x14, 3, 0, 0, 0, 0, 0, 0, 0, 7, 0, 0, 0, 0, 0, 0, 0, 2, 1, 1, 0x61,
+];
+
+pub const THIRD_ASK: [u8; 24] = [
+    0, 0, 0, 0x14, 3, 0, 0, 0, 0, 0, 0, 0, 7, 0, 0, 0, 0, 0, 0, 0, 3, 1, 1, 0x61,
+];
+
+/// What session 7 asked under number 2 is stored.
+pub const SECOND_STORED: [u8; 22] = [
+    0, 0, 0, 0x12, 4, 0, 0, 0, 0, 0, 0, 0, 7, 0, 0, 0, 0, 0, 0, 0, 2, 1,
 ];
 
 /// What session 7 asked under number 1 is stored.
