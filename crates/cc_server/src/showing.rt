@@ -184,5 +184,6 @@ fn peer_note<R: Wait>(rt: &R, shared: &Shared, link: &LinkRow) -> PeerNote {
             None
         },
         last_heard: channel.and_then(PeerChannel::last_heard),
+        is_silent: false,
     }
 }
