@@ -1,12 +1,14 @@
 #!/usr/bin/env python3
-"""Runs three nodes with status pages under load, misuses the page of one of them in turn, and checks after each misuse that
-it answers; then compares the answers a second with and without. It fails where a request isn't answered as it should be,
-or the answers fall by 5 percent or more.
+"""Takes all places of a node's page by watchers and slow readers, and checks that one is free again in time. Then runs
+three nodes with status pages under load, misuses the page of one of them in turn, and checks after each misuse that it
+answers; then compares the answers a second with and without. It fails where a request isn't answered as it should be, or
+the answers fall by 5 percent or more.
 
-usage: hostile_status.py PROGRAM              all of that: two minutes
+usage: hostile_status.py PROGRAM              all of that: two and a half minutes
        hostile_status.py HOST:PORT SECONDS    misuses a page that runs already, and tells what came of it
 
-Loopback alone. It looks at /metrics by promtool where that is installed, and ends all that it started.
+Loopback alone. The places are tried in a network namespace: that wants unshare, and root or namespaces of users. It
+looks at /metrics by promtool where that is installed, and ends all that it started.
 """
 import http.client
 import json
@@ -30,6 +32,10 @@ PAGES = {
 # A connection has five seconds for its request, and some to be noticed.
 LIMIT, GRACE = 5.0, 3.0
 CROWD, CLIENTS = 1_000, 4
+# Half of the places are for watchers. An answer has ten seconds, and what comes behind a request is taken for one more.
+HALF, ANSWER, DRAIN = 8, 10.0, 1.0
+# How many bytes a slow reader takes each second.
+PACE = 1_000
 # Stores are counted by turns without and with misuse, so many times for so many seconds.
 PAIRS, SECONDS = 5, 8
 MOST_FALL = 0.05
@@ -267,6 +273,79 @@ def misuse(address, seconds):
                 say(one(address))
 
 
+# ---- all places taken
+
+
+def slow_reader(address, path):
+    """A reader to whom little of an answer is on the way: its segments and its window are small."""
+    connection = socket.socket()
+    connection.setsockopt(socket.IPPROTO_TCP, socket.TCP_MAXSEG, 536)
+    connection.setsockopt(socket.SOL_SOCKET, socket.SO_RCVBUF, 4_096)
+    connection.connect(address)
+    connection.sendall(f"GET {path} HTTP/1.1\r\n\r\n".encode())
+    connection.setblocking(False)
+    return connection
+
+
+def take(reader):
+    """A slow reader takes some bytes, if any came."""
+    try:
+        reader.recv(PACE)
+    except OSError:
+        pass
+
+
+def is_served(address):
+    try:
+        return status_of(asked(address, b"GET /healthz HTTP/1.1\r\n\r\n")) == 200
+    except (Failure, OSError):
+        return False
+
+
+def hold_places(address):
+    """Watchers that read nothing, and readers that take some bytes each second, in all places. After how many seconds one of
+    these is free again."""
+    holders = [slow_reader(address, path) for path in ["/view/changes"] * HALF + ["/"] * HALF]
+    began = time.monotonic()
+    try:
+        time.sleep(1)
+        if is_served(address):
+            raise Failure("the places aren't taken")
+        while time.monotonic() < began + 5 * ANSWER:
+            for reader in holders[HALF:]:
+                take(reader)
+            time.sleep(1)
+            if is_served(address):
+                return time.monotonic() - began
+        raise Failure(f"none is free after {5 * ANSWER:.0f} s")
+    finally:
+        for holder in holders:
+            holder.close()
+
+
+def take_all_places(program):
+    """Whether a node whose places are all taken answers in time. It is run where the system keeps little of what is sent."""
+    verdicts = nodes.Verdicts()
+    with WatchedCluster(program, 1) as cluster:
+        cluster.start_all()
+        cluster.wait_until_ready()
+        try:
+            seconds = hold_places(cluster.page_address(1))
+            told = f"{HALF} watchers and {HALF} slow readers in all places: one is free after {seconds:.1f} s"
+            verdicts.add(seconds < ANSWER + DRAIN + GRACE, told)
+        except (Failure, OSError) as why:
+            verdicts.add(False, f"all places taken: {why}")
+    return verdicts.is_good
+
+
+def takes_places_apart(program):
+    """The same in a network of its own, in which the system keeps 4 KiB of what a connection sends: elsewhere it takes a
+    whole page from the node, and nobody holds a place."""
+    begin = 'ip link set lo up && echo "4096 4096 4096" >/proc/sys/net/ipv4/tcp_wmem && exec "$0" "$@"'
+    words = ["unshare", "--map-root-user", "--net", "sh", "-c", begin, sys.executable, __file__, program, "places"]
+    return subprocess.run(words, check=False).returncode == 0
+
+
 # ---- a cluster under load
 
 
@@ -317,6 +396,7 @@ def raise_limit():
 
 def main(program):
     verdicts = nodes.Verdicts()
+    verdicts.add(takes_places_apart(program), "a node whose places are all taken answers in time")
     with WatchedCluster(program, 3, beta="2/3") as cluster:
         cluster.start_all()
         cluster.wait_until_ready()
@@ -336,6 +416,8 @@ def main(program):
 if __name__ == "__main__":
     nodes.end_on_signals()
     raise_limit()
+    if sys.argv[2:] == ["places"]:
+        sys.exit(not take_all_places(sys.argv[1]))
     if len(sys.argv) == 3:
         host, port = sys.argv[1].rsplit(":", 1)
         misuse((host, int(port)), float(sys.argv[2]))

@@ -56,7 +56,7 @@ svg text { fill: var(--ink); font-size: 13px; }
 #legend svg { width: 18px; height: 18px; }
 #legend svg * { stroke-width: 4; }
 .link { stroke: var(--soft); stroke-width: 1; opacity: .55; }
-.link.is-absent { stroke: var(--bad); stroke-dasharray: 5 4; opacity: 1; }
+.link.is-away { stroke: var(--bad); stroke-dasharray: 5 4; opacity: 1; }
 .link.is-apart { stroke-dasharray: 1 4; stroke-linecap: round; opacity: 1; }
 text.behind { fill: var(--soft); font-size: 12px; paint-order: stroke; stroke: var(--panel); stroke-width: 6px; }
 text.behind.is-late { fill: var(--ink); font-weight: 650; font-size: 14px; }
@@ -67,9 +67,9 @@ text.behind.is-late { fill: var(--ink); font-weight: 650; font-size: 14px; }
 .joined text.number { fill: var(--on); }
 .entering circle { stroke: var(--warn); stroke-dasharray: 4 3; }
 .entering text { fill: var(--warn); }
-.absent circle { stroke: var(--bad); }
-.absent text { fill: var(--bad); }
-.absent path { stroke: var(--bad); stroke-width: 2; stroke-linecap: round; }
+.absent circle, .silent circle { stroke: var(--bad); }
+.absent text, .silent text { fill: var(--bad); }
+.absent path, .silent path { stroke: var(--bad); stroke-width: 2; stroke-linecap: round; }
 .left circle { stroke: var(--gone); stroke-width: 1; }
 .left text { fill: var(--gone); }
 .left text.number { text-decoration: line-through; }
@@ -184,7 +184,7 @@ tr.is-new > * { animation: fresh 1.6s ease-out; }
 <script>
 "use strict";
 const EACH = 1000, PATIENCE = 3000, SPANS = [1, 2, 5];
-const STATES = ["joined", "entering", "absent", "left"];
+const STATES = ["joined", "entering", "silent", "absent", "left"];
 const at = id => document.getElementById(id);
 const samples = [];
 let last = null, heard = 0, misses = 0;
@@ -206,7 +206,9 @@ function draw(name, attributes, text) {
   if (text !== undefined) element.textContent = text;
   return element;
 }
-const count = (number, word, words = word + "s") => number.toLocaleString("en") + " " + (number === 1 ? word : words);
+const count = (number, word, words = word + "s") => number.toLocaleString("en") + " " + (number == 1 ? word : words);
+// A number that comes as a string of digits, since it may exceed 2^53.
+const wide = digits => BigInt(digits).toLocaleString("en");
 const total = named => Object.values(named).reduce((sum, number) => sum + number, 0);
 function lasting(ms) {
   const s = Math.max(0, Math.floor(ms / 1000)), m = Math.floor(s / 60), h = Math.floor(m / 60), d = Math.floor(h / 24);
@@ -234,13 +236,14 @@ function nodesOf(status) {
 function stateOf(status, id, link) {
   if (status.left.includes(id)) return "left";
   if (link && link.absent_since !== null) return "absent";
+  if (link && link.is_silent) return "silent";
   return status.members.includes(id) ? "joined" : "entering";
 }
 function told(node, now) {
   if (node.isThis) return "node " + node.id + ", this one, " + node.state;
   if (!node.link || node.state === "left") return "node " + node.id + " " + node.state;
   const since = node.state === "absent" ? " for " + lasting(now - node.link.absent_since) : "";
-  const behind = node.link.behind ? count(node.link.behind, "post") + " behind" : "in step";
+  const posts = BigInt(node.link.behind), behind = posts ? count(posts, "post") + " behind" : "in step";
   return "node " + node.id + " " + node.state + since + ", " + behind;
 }
 
@@ -250,14 +253,18 @@ function place(index, total) {
   const angle = -Math.PI / 2 + 2 * Math.PI * index / total;
   return [210 + 138 * Math.cos(angle), 186 + 130 * Math.sin(angle)];
 }
+// A silent node is marked by a dash, an absent one by a cross.
+const isAway = state => state === "silent" || state === "absent";
+const dash = (x, y, e) => `M${x - e} ${y}h${2 * e}`;
 const cross = (x, y, e) => `M${x - e} ${y - e}l${2 * e} ${2 * e}m0 ${-2 * e}l${-2 * e} ${2 * e}`;
+const markOf = state => state === "silent" ? dash : cross;
 function shape(state, x, y, r) {
   const group = draw("g", { class: "node " + state });
   group.append(draw("circle", { cx: x, cy: y, r }));
-  if (state === "absent") {
+  if (isAway(state)) {
     const d = r * .72, e = Math.max(2.5, r / 5);
     group.append(draw("circle", { cx: x + d, cy: y - d, r: e * 1.9 }));
-    group.append(draw("path", { d: cross(x + d, y - d, e) }));
+    group.append(draw("path", { d: markOf(state)(x + d, y - d, e) }));
   }
   return group;
 }
@@ -273,10 +280,10 @@ function nodeShape(node, x, y, r) {
 }
 function linkShape(node, from, to) {
   const group = draw("g", {}), link = node.link;
-  const kind = node.state === "absent" ? " is-absent" : link.connected_since === null ? " is-apart" : "";
+  const kind = isAway(node.state) ? " is-away" : link.connected_since === null ? " is-apart" : "";
   group.append(draw("line", { class: "link" + kind, x1: from[0], y1: from[1], x2: to[0], y2: to[1] }));
   const [x, y] = [from[0] + .6 * (to[0] - from[0]), from[1] + .6 * (to[1] - from[1])];
-  const late = link.behind ? " is-late" : "";
+  const late = BigInt(link.behind) ? " is-late" : "";
   group.append(draw("text", { class: "behind" + late, x, y, dy: ".35em", "text-anchor": "middle" }, link.behind));
   return group;
 }
@@ -297,7 +304,7 @@ function showLegend() {
   at("legend").replaceChildren(...STATES.map(state => {
     const item = make("li"), svg = draw("svg", { viewBox: "0 0 40 40", "aria-hidden": "true" });
     svg.append(draw("circle", { cx: 20, cy: 20, r: 15 }));
-    if (state === "absent") svg.append(draw("path", { d: cross(20, 20, 6) }));
+    if (isAway(state)) svg.append(draw("path", { d: markOf(state)(20, 20, 6) }));
     svg.setAttribute("class", "node " + state);
     item.append(svg, state);
     return item;
@@ -305,13 +312,13 @@ function showLegend() {
 }
 
 function showHeader(status) {
-  const quorum = status.quorum, away = quorum.may_be_away;
+  const quorum = status.quorum, most = quorum.may_be_away, away = quorum.away ? `, ${quorum.away} ${quorum.away === 1 ? "is" : "are"}` : "";
   say(at("name"), "Node " + status.id);
   say(at("ready"), status.is_ready ? "✓ Ready" : "▲ Not ready");
   say(at("reason"), status.is_ready ? "" : status.reason);
   at("readiness").classList.toggle("is-waiting", !status.is_ready);
   say(at("standing"), status.standing);
-  say(at("quorum"), `${quorum.need} of ${quorum.members} must answer; ${away ? away : "none"} may be away`);
+  say(at("quorum"), `${quorum.need} of ${quorum.members} must answer; ${most || "none"} may be away${away}`);
   say(at("uptime"), lasting(status.now - status.started));
   say(at("version"), status.version);
   document.title = `Node ${status.id}: ${status.is_ready ? "ready" : "not ready"}`;
@@ -360,9 +367,10 @@ function showFacts(status) {
     fact("Events of a batch", batches(counts)),
     fact("Slowest sync", milliseconds(syncs.worst_us)),
     fact("Refused", list(counts.refusals)),
-    fact("Disk", `${bytes(disk.bytes)} on side ${disk.side}, generation ${disk.generation.toLocaleString("en")}`),
+    fact("Disk", `${bytes(disk.bytes)} on side ${disk.side}, generation ${wide(disk.generation)}`),
     fact("Records", disk.records.toLocaleString("en")),
     fact("Checkpoints", counts.checkpoints.toLocaleString("en")),
+    fact("Nodes that left", status.left.join(", ") || "none"),
   );
 }
 
@@ -383,11 +391,17 @@ function fill(body, rows, cells, isNews) {
   });
   body.closest(".table").hidden = !rows.length;
 }
+// A text that isn’t UTF-8 comes as base64, and is shown by its bytes.
+function textCell(row) {
+  if (row.text !== undefined) return [row.text, "text"];
+  const codes = [...atob(row.text_base64)].map(byte => byte.charCodeAt(0).toString(16).padStart(2, "0"));
+  return ["not UTF-8: bytes " + codes.join(" "), "text soft"];
+}
 function showView(status) {
   const rows = status.view;
   say(at("view-count"), rows.length ? count(rows.length, "row") : "none yet");
   fill(at("view"), rows, row => [
-    [row.node], [row.number.toLocaleString("en"), "number"], [row.text, "text"], [row.max.toLocaleString("en"), "number"],
+    [row.node], [wide(row.number), "number"], textCell(row), [wide(row.max), "number"],
     [row.flag ? "yes" : "no", row.flag ? "" : "soft"], [row.set.join(", ") || "–", row.set.length ? "text" : "soft"],
   ], true);
 }
@@ -396,8 +410,8 @@ function showPeers(status) {
   say(at("peers-count"), nodes.length ? "behind: posts that aren’t acknowledged" : "none");
   fill(at("peers"), nodes, ({ id, link, state }) => [
     [id],
-    state === "absent" ? ["absent for " + lasting(now - link.absent_since), "is-bad whole"] : [state],
-    [link.behind.toLocaleString("en"), "number"], [ago(now, link.last_heard), "whole"],
+    state === "absent" ? ["absent for " + lasting(now - link.absent_since), "is-bad whole"] : [state, isAway(state) ? "is-bad" : ""],
+    [wide(link.behind), "number"], [ago(now, link.last_heard), "whole"],
     link.connected_since === null ? ["no", "soft"] : ["for " + lasting(now - link.connected_since), "whole"],
     link.address === null ? ["not among the peers", "soft"] : [link.address, "whole"],
   ], false);

@@ -1,6 +1,7 @@
 //! What is shown of a node is laid out.
 
 ghost use Rattle.std.specs.Prelude.{◌≡◌, [], IfOk, OnOk};
+ghost use Rattle.cc_status.specs.Readiness.{Judges};
 ghost use Rattle.cc_status.specs.Showing.{Shows, Begins};
 
 use crate::counting::{put_buckets, put_named, put_syncs};
@@ -9,8 +10,9 @@ use crate::live::{Live, Shown};
 use crate::members::{push_all, push_live, push_sessions};
 use crate::peers::push_peers;
 use crate::rows::push_rows;
-use crate::standing::{Standing, put_quorum, put_reason, round_status};
+use crate::standing::{Quorum, Standing, is_ready, put_quorum, put_reason, round_status};
 use crate::status::{Counts, DiskStatus, PostStatus, QuorumStatus, Status, SyncStatus};
+use crate::wide::Wide;
 use cc_outbox::Outbox;
 use cc_sessions::Sessions;
 use cc_site::Side;
@@ -21,7 +23,8 @@ use std::mem;
 
 /// What is shown of a node, and of what is known of it beside its state. The only error is a refused growth.
 pub fn status_of(alloc: Global, shown: &Shown, live: &Live<'_>) -> Result<Status, NoMemory>
-    ensures { IfOk result (λ s. Shows shown.now.core shown.now.kept s) }
+    ensures shows { IfOk result (λ s. Shows shown.now.core shown.now.kept s) }
+    ensures judges { IfOk result (λ s. Judges shown.now live.entry.now.peers.now s) }
 {
     let mut status = blank(alloc, shown, live);
     let Ok(()) = lay_state(alloc, shown, &mut status) else {
@@ -61,7 +64,7 @@ fn blank(alloc: Global, shown: &Shown, live: &Live<'_>) -> Status
         sessions: Vec::new(alloc),
         session_limit: Sessions::MAX_ROWS as u64,
         posts: PostStatus {
-            made: core.posts(),
+            made: Wide(core.posts()),
             kept: shown.kept,
             limit: Outbox::MAX_POSTS as u64,
         },
@@ -79,13 +82,14 @@ fn blank_quorum(alloc: Global) -> QuorumStatus {
         members: 0,
         need: 0,
         may_be_away: 0,
+        away: 0,
     }
 }
 
 fn blank_disk(alloc: Global, live: &Live<'_>) -> DiskStatus {
     DiskStatus {
         side: String::new(alloc),
-        generation: live.disk.generation,
+        generation: Wide(live.disk.generation),
         bytes: live.disk.bytes,
         records: live.disk.records,
         events: live.disk.events,
@@ -140,13 +144,14 @@ fn lay_rest(
     status: &mut Status,
 ) -> Result<(), NoMemory>
     requires { Shows shown.now.core shown.now.kept status.old }
-    ensures { OnOk result (Shows shown.now.core shown.now.kept status.new) }
+    ensures shows { OnOk result (Shows shown.now.core shown.now.kept status.new) }
+    ensures judges { OnOk result (Judges shown.now live.entry.now.peers.now status.new) }
 {
     lay_standing(alloc, shown, live, status)?;
     lay_around(alloc, shown, live, status)
 }
 
-// Lays out where the node stands, and its round.
+// Lays out where the node stands, whether it is ready, and its round.
 fn lay_standing(
     alloc: Global,
     shown: &Shown,
@@ -154,14 +159,24 @@ fn lay_standing(
     status: &mut Status,
 ) -> Result<(), NoMemory>
     requires { Shows shown.now.core shown.now.kept status.old }
-    ensures { OnOk result (Shows shown.now.core shown.now.kept status.new) }
+    ensures shows { OnOk result (Shows shown.now.core shown.now.kept status.new) }
+    ensures judges { OnOk result (Judges shown.now live.entry.now.peers.now status.new) }
 {
     let core = &shown.core;
+    let quorum = Quorum::of(shown, &status.members, live.peers);
+    status.is_ready = is_ready(core, quorum);
+    put_quorum(core, quorum, &mut status.quorum)?;
+    if !status.is_ready {
+        put_reason(
+            core,
+            &status.members,
+            live.peers,
+            quorum,
+            &mut status.reason,
+        )?;
+    }
     status.version.push_str(live.version)?;
     status.standing.push_str(Standing::of(core).name())?;
-    put_reason(shown, live, &mut status.reason)?;
-    status.is_ready = status.reason.is_empty();
-    put_quorum(shown, live, &mut status.quorum)?;
     drop(mem::replace(&mut status.round, round_status(alloc, core, live)?));
     Ok(())
 }
@@ -173,8 +188,10 @@ fn lay_around(
     live: &Live<'_>,
     status: &mut Status,
 ) -> Result<(), NoMemory>
-    requires { Shows shown.now.core shown.now.kept status.old }
-    ensures { OnOk result (Shows shown.now.core shown.now.kept status.new) }
+    requires shows { Shows shown.now.core shown.now.kept status.old }
+    requires judges { Judges shown.now live.now.peers.now status.old }
+    ensures shows { OnOk result (Shows shown.now.core shown.now.kept status.new) }
+    ensures judges { OnOk result (Judges shown.now live.entry.now.peers.now status.new) }
 {
     push_peers(alloc, &shown.core, live, &mut status.peers)?;
     status.disk.side.push_str(side_name(live))?;

@@ -13,6 +13,7 @@ mod rows;
 mod standing;
 mod status;
 mod texts;
+mod wide;
 
 pub use counts::{BATCH_BOUNDS, COMMANDS, Counted, REFUSALS, SYNC_BOUNDS, SyncCounts};
 pub use laying::status_of;
@@ -23,3 +24,4 @@ pub use status::{
     Counts, DiskStatus, PeerStatus, PostStatus, QuorumStatus, RoundStatus, RowStatus,
     SessionStatus, Status, SyncStatus,
 };
+pub use wide::Wide;

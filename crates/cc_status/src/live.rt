@@ -1,8 +1,10 @@
 //! What is known of a running node beside its state.
 
-ghost use Rattle.std.specs.Prelude.{◌≡◌, IfOk};
+ghost use Rattle.std.specs.Prelude.{◌≡◌, IfOk, length};
+ghost use Rattle.std.specs.List.{filter, list_any};
 ghost use Rattle.std.specs.FinMap as table;
 ghost use Rattle.cc_churn.specs.Churn as churn;
+ghost use Rattle.cc_status.specs.Readiness.{says_heard, is_away};
 
 use crate::counts::Counted;
 use cc_node::{Core, Node};
@@ -58,8 +60,17 @@ pub struct PeerNote {
     pub connected_since: Option<u64>,
     pub absent_since: Option<u64>,
     pub last_heard: Option<u64>,
-    /// Whether no open connection brings its frames, or none came for three seconds.
+    /// Whether no open connection brings its frames, or none has come for three seconds.
     pub is_silent: bool,
+}
+
+impl PeerNote {
+    // Whether it says of that node that it is neither silent nor absent.
+    fn says_heard(&self, id: u32) -> bool
+        ensures { result ≡ says_heard id self.now }
+    {
+        self.peer.number() == id && !self.is_silent && self.absent_since.is_none()
+    }
 }
 
 /// What is known of a running node beside its state.
@@ -80,4 +91,24 @@ impl Live<'_> {
     pub fn note_of(&self, peer: NodeId) -> Option<&PeerNote> {
         self.peers.iter().find(|note| note.peer == peer)
     }
+}
+
+/// How many of the members are away: neither the node itself, nor heard by what is known of the peers.
+pub(crate) fn count_away(members: &[u32], me: NodeId, notes: &[PeerNote]) -> u64
+    ensures { result ≡ length (filter (is_away me notes.now) members.now) }
+{
+    let away = members.iter().filter(|id| is_away(**id, me, notes));
+    away.count() as u64
+}
+
+fn is_away(id: u32, me: NodeId, notes: &[PeerNote]) -> bool
+    ensures { result ≡ is_away me notes.now id }
+{
+    id != me.number() && !is_heard(id, notes)
+}
+
+fn is_heard(id: u32, notes: &[PeerNote]) -> bool
+    ensures { result ≡ list_any (says_heard id) notes.now }
+{
+    notes.iter().any(|note| note.says_heard(id))
 }

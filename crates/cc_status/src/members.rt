@@ -7,6 +7,7 @@ ghost use Rattle.cc_sessions.specs.Rows as sessions;
 ghost use Rattle.cc_status.specs.Showing.{told_session, session_told};
 
 use crate::status::SessionStatus;
+use crate::wide::Wide;
 use cc_changes::Changes;
 use cc_sessions::SessionRow;
 use cc_views::{NoMemory, NodeId};
@@ -46,8 +47,8 @@ pub(crate) fn push_sessions(
 {
     for row in rows {
         sessions.push(SessionStatus {
-            session: row.session,
-            request: row.last,
+            session: Wide(row.session),
+            request: Wide(row.last),
         })?;
     }
     Ok(())

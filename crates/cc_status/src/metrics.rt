@@ -99,7 +99,7 @@ fn print_node<W: fmt::Write>(f: &mut fmt::Formatter<W>, status: &Status) -> fmt:
         &[
             gauge(
                 "ready",
-                "Whether it has joined and enough members aren't absent.",
+                "Whether it has joined and enough members are neither silent nor absent.",
                 ready,
             ),
             gauge(
@@ -111,6 +111,11 @@ fn print_node<W: fmt::Write>(f: &mut fmt::Formatter<W>, status: &Status) -> fmt:
                 "members_needed",
                 "Members that answer an operation.",
                 quorum.need,
+            ),
+            gauge(
+                "members_away",
+                "Members that are silent or absent.",
+                quorum.away,
             ),
             gauge("present", "Nodes that entered and haven't left.", present),
         ],
@@ -181,7 +186,11 @@ fn print_counts<W: fmt::Write>(f: &mut fmt::Formatter<W>, status: &Status) -> fm
                 "Checkpoints since the start.",
                 counts.checkpoints,
             ),
-            counter("posts_total", "Posts made in the node's life.", posts.made),
+            counter(
+                "posts_total",
+                "Posts made in the node's life.",
+                posts.made.0,
+            ),
             gauge("posts_kept", "Posts kept for peers.", posts.kept),
             gauge(
                 "posts_limit",
@@ -221,6 +230,7 @@ fn print_by_name<W: fmt::Write>(
 #[derive(Clone, Copy)]
 enum PeerGauge {
     Behind,
+    Silent,
     Absent,
     Connected,
 }
@@ -229,6 +239,7 @@ impl PeerGauge {
     fn name(self) -> &'static str {
         match self {
             PeerGauge::Behind => "peer_behind_posts",
+            PeerGauge::Silent => "peer_silent",
             PeerGauge::Absent => "peer_absent",
             PeerGauge::Connected => "peer_connected",
         }
@@ -237,6 +248,7 @@ impl PeerGauge {
     fn help(self) -> &'static str {
         match self {
             PeerGauge::Behind => "Posts that a peer hasn't acknowledged.",
+            PeerGauge::Silent => "Whether no frame of a peer has come for three seconds.",
             PeerGauge::Absent => "Whether a peer is taken for absent.",
             PeerGauge::Connected => "Whether the node is connected to a peer.",
         }
@@ -244,7 +256,8 @@ impl PeerGauge {
 
     fn of(self, peer: &PeerStatus) -> u64 {
         match self {
-            PeerGauge::Behind => peer.behind,
+            PeerGauge::Behind => peer.behind.0,
+            PeerGauge::Silent => u64::from(peer.is_silent),
             PeerGauge::Absent => u64::from(peer.absent_since.is_some()),
             PeerGauge::Connected => u64::from(peer.connected_since.is_some()),
         }
@@ -253,6 +266,7 @@ impl PeerGauge {
 
 fn print_peers<W: fmt::Write>(f: &mut fmt::Formatter<W>, peers: &[PeerStatus]) -> fmt::Result {
     print_of_peers(f, PeerGauge::Behind, peers)?;
+    print_of_peers(f, PeerGauge::Silent, peers)?;
     print_of_peers(f, PeerGauge::Absent, peers)?;
     print_of_peers(f, PeerGauge::Connected, peers)
 }
@@ -277,7 +291,11 @@ fn print_disk<W: fmt::Write>(f: &mut fmt::Formatter<W>, status: &Status) -> fmt:
         f,
         &[
             gauge("side_bytes", "How long the side in use is.", disk.bytes),
-            gauge("side_generation", "The generation in use.", disk.generation),
+            gauge(
+                "side_generation",
+                "The generation in use.",
+                disk.generation.0,
+            ),
             gauge("side_records", "Records behind the state.", disk.records),
         ],
     )

@@ -2,6 +2,7 @@
 
 use crate::live::{Live, PeerNote};
 use crate::status::PeerStatus;
+use crate::wide::Wide;
 use cc_links::LinkRow;
 use cc_node::Core;
 use cc_views::NoMemory;
@@ -36,9 +37,10 @@ fn peer_status(
         address: None,
         connected_since: None,
         absent_since: None,
-        behind: posts.saturating_sub(reach),
-        acknowledged: link.acked,
-        heard: link.heard,
+        is_silent: true,
+        behind: Wide(posts.saturating_sub(reach)),
+        acknowledged: Wide(link.acked),
+        heard: Wide(link.heard),
         last_heard: None,
     };
     if let Some(note) = note {
@@ -57,6 +59,7 @@ fn add_note(alloc: Global, note: &PeerNote, status: &mut PeerStatus) -> Result<(
     status.connected_since = note.connected_since;
     status.absent_since = note.absent_since;
     status.last_heard = note.last_heard;
+    status.is_silent = note.is_silent;
     Ok(())
 }
 

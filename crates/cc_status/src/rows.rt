@@ -5,7 +5,8 @@ ghost use Rattle.cc_views.specs.Rows.{rows_of};
 ghost use Rattle.cc_status.specs.Showing.{told_row, row_told};
 
 use crate::status::RowStatus;
-use crate::texts::shown_text;
+use crate::texts::{ShownText, shown_text};
+use crate::wide::Wide;
 use cc_views::{NoMemory, Row, View};
 use std::alloc::Global;
 
@@ -41,15 +42,16 @@ fn shown_row(alloc: Global, row: &Row) -> Result<RowStatus, NoMemory>
 {
     let mut set = Vec::new(alloc);
     set.extend_from_slice(row.value.set.as_slice())?;
-    let Ok(text) = shown_text(alloc, &row.value.text) else {
+    let Ok(ShownText { plain, base64 }) = shown_text(alloc, &row.value.text) else {
         drop(set);
         return Err(NoMemory);
     };
     Ok(RowStatus {
         node: row.node.number(),
-        number: row.number,
-        text,
-        max: row.value.max,
+        number: Wide(row.number),
+        text: plain,
+        text_base64: base64,
+        max: Wide(row.value.max),
         flag: row.value.flag,
         set,
     })

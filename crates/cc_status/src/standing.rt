@@ -1,11 +1,18 @@
 //! Whether a node is ready, and what it waits for.
 
-use crate::live::{Live, Shown};
+ghost use Rattle.std.specs.Prelude.{◌≡◌, ◌-◌, ◌&&◌, not, nat_le, OnOk};
+ghost use Rattle.cc_views.specs.NatSets as set;
+ghost use Rattle.cc_changes.specs.ChangeSets.{members};
+ghost use Rattle.cc_churn.specs.Churn.{has_joined, has_left};
+ghost use Rattle.cc_status.specs.Readiness.{away};
+
+use crate::live::{Live, PeerNote, Shown, count_away};
 use crate::status::{QuorumStatus, RoundStatus};
+use crate::wide::Wide;
 use cc_changes::Fraction;
 use cc_node::Core;
 use cc_ops::{Pending, Stage};
-use cc_views::{NoMemory, NodeId};
+use cc_views::NoMemory;
 use std::alloc::Global;
 
 /// Where a node stands in its life.
@@ -41,87 +48,106 @@ impl Standing {
     }
 }
 
-/// How many members there are, how many of them answer an operation that begins now, and how many are absent.
+/// How many members there are, how many of them have to answer an operation that begins now, and how many are away.
 #[derive(Clone, Copy)]
 pub(crate) struct Quorum {
     members: u64,
     need: u64,
-    absent: u64,
+    away: u64,
 }
 
 impl Quorum {
-    pub(crate) fn of(shown: &Shown, live: &Live<'_>) -> Self {
+    // These are the members' ids.
+    pub(crate) fn of(shown: &Shown, ids: &[u32], notes: &[PeerNote]) -> Self
+        requires { ids.now ≡ set.items (members shown.now.core.churn.changes) }
+        ensures members { result.members ≡ set.len (members shown.now.core.churn.changes) }
+        ensures need { result.need ≡ shown.now.need }
+        ensures away { result.away ≡ away shown.now.core notes.now }
+    {
         Quorum {
             members: shown.core.churn().changes().member_count(),
             need: shown.need,
-            absent: absent_members(&shown.core, live),
+            away: count_away(ids, shown.core.me(), notes),
         }
     }
 
-    // Whether enough members aren't absent.
-    fn is_met(self) -> bool {
-        self.members.saturating_sub(self.absent) >= self.need
+    // Whether enough members aren't away.
+    fn is_met(self) -> bool
+        ensures { result ≡ nat_le self.need (self.members - self.away) }
+    {
+        self.need <= self.members.saturating_sub(self.away)
     }
 }
 
-fn absent_members(core: &Core, live: &Live<'_>) -> u64 {
-    let mut count: u64 = 0;
-    for note in live.peers {
-        if note.absent_since.is_some() && is_member(core, note.peer) {
-            count = count.saturating_add(1);
-        }
-    }
-    count
+/// Whether a node has joined and hasn't left, and enough members aren't away.
+pub(crate) fn is_ready(core: &Core, quorum: Quorum) -> bool
+    ensures { result ≡ ((has_joined core.now.me core.now.churn && not (has_left core.now.me core.now.churn))
+        && nat_le quorum.need (quorum.members - quorum.away)) }
+{
+    core.is_joined() && !core.churn().has_left(core.me()) && quorum.is_met()
 }
 
-fn is_member(core: &Core, node: NodeId) -> bool {
-    core.churn().has_joined(node) && !core.churn().has_left(node)
-}
-
-/// Adds why a node isn't ready. Nothing where it is.
+/// Adds why a node isn't ready, of which these are the members.
 pub(crate) fn put_reason(
-    shown: &Shown,
-    live: &Live<'_>,
+    core: &Core,
+    members: &[u32],
+    notes: &[PeerNote],
+    quorum: Quorum,
     reason: &mut String,
 ) -> Result<(), NoMemory> {
-    let text = match Standing::of(&shown.core) {
+    let text = match Standing::of(core) {
         Standing::Apart => "it hasn't entered yet",
         Standing::Entered => "it hasn't joined yet",
         Standing::Left => "it has left",
-        Standing::Joined => return put_absence(Quorum::of(shown, live), reason),
+        Standing::Joined => {
+            let are_silent = !notes.iter().any(|note| is_absent_alone(note, members));
+            return put_absence(quorum, are_silent, reason);
+        }
     };
     reason.push_str(text)?;
     Ok(())
 }
 
-// Adds that too many members are absent. Nothing where so many aren't.
-fn put_absence(quorum: Quorum, reason: &mut String) -> Result<(), NoMemory> {
+// Whether one of the members is absent and not silent.
+fn is_absent_alone(note: &PeerNote, members: &[u32]) -> bool {
+    note.absent_since.is_some() && !note.is_silent && members.contains(&note.peer.number())
+}
+
+// Adds that too many members are away, and whether all of these are silent.
+fn put_absence(quorum: Quorum, are_silent: bool, reason: &mut String) -> Result<(), NoMemory> {
     let Quorum {
         members,
         need,
-        absent,
+        away,
     } = quorum;
-    if !quorum.is_met() {
-        write!(
-            reason,
-            "{absent} of {members} members are absent, and {need} have to answer"
-        )?;
-    }
+    let how = if are_silent {
+        "silent"
+    } else {
+        "silent or absent"
+    };
+    write!(
+        reason,
+        "{away} of {members} members are {how}, and {need} have to answer"
+    )?;
     Ok(())
 }
 
-/// Tells how many members answer an operation that begins now.
+/// Tells how many members have to answer an operation that begins now, and how many are away.
 pub(crate) fn put_quorum(
-    shown: &Shown,
-    live: &Live<'_>,
-    quorum: &mut QuorumStatus,
-) -> Result<(), NoMemory> {
-    let Quorum { members, need, .. } = Quorum::of(shown, live);
-    quorum.members = members;
-    quorum.need = need;
-    quorum.may_be_away = members.saturating_sub(need);
-    put_fraction(shown.core.beta(), &mut quorum.beta)?;
-    put_fraction(shown.core.gamma(), &mut quorum.gamma)
+    core: &Core,
+    quorum: Quorum,
+    status: &mut QuorumStatus,
+) -> Result<(), NoMemory>
+    ensures members { OnOk result (status.new.members ≡ quorum.members) }
+    ensures need { OnOk result (status.new.need ≡ quorum.need) }
+    ensures away { OnOk result (status.new.away ≡ quorum.away) }
+{
+    status.members = quorum.members;
+    status.need = quorum.need;
+    status.may_be_away = quorum.members.saturating_sub(quorum.need);
+    status.away = quorum.away;
+    put_fraction(core.beta(), &mut status.beta)?;
+    put_fraction(core.gamma(), &mut status.gamma)
 }
 
 fn put_fraction(share: Fraction, text: &mut String) -> Result<(), NoMemory> {
@@ -145,8 +171,8 @@ pub(crate) fn round_status(
     let Pending { asked, need, count } = pending;
     Ok(Some(RoundStatus {
         phase: String::from_str(alloc, phase)?,
-        session: asked.session,
-        request: asked.request,
+        session: Wide(asked.session),
+        request: Wide(asked.request),
         others: core.ops().others().asks().len() as u64,
         answers: count,
         need,

@@ -1,5 +1,7 @@
 //! What a node shows of itself, as the members of a JSON object. Moments are milliseconds since 1970 by the node's clock.
+//! What may exceed 2^53 is a `Wide`, which JSON has as a string.
 
+use crate::wide::Wide;
 use serde::Serialize;
 use std::collections::BTreeMap;
 
@@ -14,7 +16,7 @@ pub struct Status {
     pub now: u64,
     /// `apart` before it has entered, `entered`, `joined` or `left`.
     pub standing: String,
-    /// Whether it has joined, and enough members aren't absent for an operation to end.
+    /// Whether it has joined, and enough members are neither silent nor absent for an operation to end.
     pub is_ready: bool,
     /// Why it isn't ready. Empty where it is.
     pub reason: String,
@@ -48,15 +50,21 @@ pub struct QuorumStatus {
     pub members: u64,
     pub need: u64,
     pub may_be_away: u64,
+    /// How many members are silent or absent.
+    pub away: u64,
 }
 
 /// The last write of a node.
 #[derive(Drop, Serialize)]
 pub struct RowStatus {
     pub node: u32,
-    pub number: u64,
-    pub text: String,
-    pub max: u64,
+    pub number: Wide,
+    /// The text where it is UTF-8; else its bytes in base64, and no `text`.
+    #[serde(skip_serializing_if = "Option::is_none")]
+    pub text: Option<String>,
+    #[serde(skip_serializing_if = "Option::is_none")]
+    pub text_base64: Option<String>,
+    pub max: Wide,
     pub flag: bool,
     pub set: Vec<u32>,
 }
@@ -66,8 +74,8 @@ pub struct RowStatus {
 pub struct RoundStatus {
     /// `Storing`, `Querying` or `StoringBack`.
     pub phase: String,
-    pub session: u64,
-    pub request: u64,
+    pub session: Wide,
+    pub request: Wide,
     pub others: u64,
     pub answers: u64,
     pub need: u64,
@@ -78,14 +86,14 @@ pub struct RoundStatus {
 /// A session, and its last request.
 #[derive(Clone, Copy, Serialize)]
 pub struct SessionStatus {
-    pub session: u64,
-    pub request: u64,
+    pub session: Wide,
+    pub request: Wide,
 }
 
 /// How many posts a node has made, how many it keeps for peers that haven't acknowledged them, and how many it may keep.
 #[derive(Clone, Copy, Serialize)]
 pub struct PostStatus {
-    pub made: u64,
+    pub made: Wide,
     pub kept: u64,
     pub limit: u64,
 }
@@ -99,10 +107,12 @@ pub struct PeerStatus {
     /// Since when this node is connected to it, and since when it is taken for absent.
     pub connected_since: Option<u64>,
     pub absent_since: Option<u64>,
+    /// Whether it is silent: no open connection brings its frames, or none has come for three seconds.
+    pub is_silent: bool,
     /// How many posts it hasn't acknowledged, up to which number it has, and the last one that came from it.
-    pub behind: u64,
-    pub acknowledged: u64,
-    pub heard: u64,
+    pub behind: Wide,
+    pub acknowledged: Wide,
+    pub heard: Wide,
     /// When it was heard last.
     pub last_heard: Option<u64>,
 }
@@ -111,7 +121,7 @@ pub struct PeerStatus {
 #[derive(Drop, Serialize)]
 pub struct DiskStatus {
     pub side: String,
-    pub generation: u64,
+    pub generation: Wide,
     pub bytes: u64,
     /// How many records count behind its state, and how many events they hold.
     pub records: u64,

@@ -1,13 +1,14 @@
 //! The rows of a node's view, as they change.
 
 use crate::board::Board;
+use crate::timed::write_within;
 use cc_channels::Flag;
 use cc_http::{HEARTBEAT, Outcome, Page, answer_page, put_event};
 use cc_status::{RowStatus, rows_of};
 use cc_views::{NoMemory, View};
 use std::alloc::Global;
 use std::collections::BTreeMap;
-use std::io::Write;
+use std::net::TcpStream;
 use std::sync::Wait;
 use std::thread;
 use std::time::{Clock, Duration};
@@ -15,16 +16,20 @@ use std::time::{Clock, Duration};
 // How long is waited between two looks, in milliseconds.
 const PAUSE_MS: u64 = 250;
 
+// How long a watcher has for what is sent at once, in seconds.
+const SEND_S: u64 = 5;
+
 // After so many looks something is sent at the latest, so that a connection that leads nowhere is found.
 const MOST_LOOKS: u64 = 60;
 
-/// Sends the rows of the view, and then each one as it changes, until a write fails or the flag is set.
-pub fn send_changes<R: Wait + Clock, W: Write>(
+/// Sends the rows of the view, and then each one as it changes, until a write fails, the watcher takes too long for what is
+/// sent, or the flag is set.
+pub fn send_changes<R: Wait + Clock>(
     rt: &R,
     alloc: Global,
     board: &Board,
     over: &Flag,
-    to: &mut W,
+    to: &TcpStream,
 ) {
     let mut sent = BTreeMap::new(alloc);
     let mut out = Vec::new(alloc);
@@ -35,14 +40,14 @@ pub fn send_changes<R: Wait + Clock, W: Write>(
 }
 
 // Sends what is to go out already, and then each row that wasn't sent as it is.
-fn send_on<R: Wait + Clock, W: Write>(
+fn send_on<R: Wait + Clock>(
     rt: &R,
     alloc: Global,
     board: &Board,
     over: &Flag,
     sent: &mut BTreeMap<u32, u64>,
     out: &mut Vec<u8>,
-    to: &mut W,
+    to: &TcpStream,
 ) {
     let mut looks: u64 = 0;
     for _ in rt.forever() {
@@ -55,7 +60,7 @@ fn send_on<R: Wait + Clock, W: Write>(
         }
         if !out.is_empty() {
             looks = 0;
-            if to.write_all(out.as_slice()).is_err() {
+            if write_within(rt, to, SEND_S, out.as_slice()).is_none() {
                 return;
             }
             out.clear();
@@ -102,7 +107,7 @@ fn put_rows(
     out: &mut Vec<u8>,
 ) -> Result<(), NoMemory> {
     for row in rows {
-        if sent.insert(row.node, row.number)? != Some(row.number) {
+        if sent.insert(row.node, row.number.0)? != Some(row.number.0) {
             put_row(alloc, row, out)?;
         }
     }

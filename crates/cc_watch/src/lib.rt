@@ -6,6 +6,7 @@ mod changes;
 mod gauges;
 mod pages;
 mod serving;
+mod timed;
 mod visitors;
 
 pub use board::{Board, Laid};

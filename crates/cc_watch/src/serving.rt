@@ -1,15 +1,15 @@
 //! Those who look at a node come over a listener of their own: 16 at most, of whom eight stay for changes. Each has five seconds
-//! for one request, and nothing that comes changes the node.
+//! for one request and ten to take its answer, by the clock, and nothing that comes changes the node.
 
 use crate::board::Board;
 use crate::changes::send_changes;
 use crate::pages::put_page;
+use crate::timed::{read_within, write_within};
 use crate::visitors::Places;
 use cc_channels::Flag;
 use cc_http::{Asked, MOST_HEAD, Page, answer_wrong, read_request};
 use cc_views::NoMemory;
 use std::alloc::Global;
-use std::io::{Read, Write};
 use std::net::{Shutdown, TcpListener, TcpStream};
 use std::sync::Wait;
 use std::thread;
@@ -21,8 +21,10 @@ const MOST_VISITORS: u64 = 16;
 
 const MOST_WATCHERS: u64 = 8;
 
-// How long somebody has for a request, and for taking an answer, in seconds.
-const PATIENCE_S: u64 = 5;
+// How long somebody has for a request, and how long for taking the whole answer, in seconds.
+const REQUEST_S: u64 = 5;
+
+const ANSWER_S: u64 = 10;
 
 // For how many seconds what comes behind a request is taken.
 const DRAIN_S: u64 = 1;
@@ -100,7 +102,6 @@ where
 
 fn visit<R: Wait + Clock>(rt: &R, alloc: Global, visitors: &Visitors<'_>, stream: &TcpStream) {
     let _ = stream.set_nodelay(true);
-    let _ = stream.set_write_timeout(Some(Duration::from_secs(PATIENCE_S)));
     if let Some(asked) = request(rt, alloc, stream) {
         serve(rt, alloc, visitors, stream, asked);
     }
@@ -123,20 +124,6 @@ fn drain<R: Clock>(rt: &R, stream: &TcpStream) -> Option<()> {
     Some(())
 }
 
-// How many bytes came, before so many seconds have passed since the start. None where none came in time, or a read fails.
-fn read_within<R: Clock>(
-    rt: &R,
-    stream: &TcpStream,
-    start: &Instant,
-    seconds: u64,
-    piece: &mut [u8],
-) -> Option<usize> {
-    let mut from: &TcpStream = stream;
-    let left = Duration::from_secs(seconds).checked_sub(start.elapsed(rt).ok()?)?;
-    stream.set_read_timeout(Some(left)).ok()?;
-    from.read(piece).ok()
-}
-
 fn serve<R: Wait + Clock>(
     rt: &R,
     alloc: Global,
@@ -144,21 +131,20 @@ fn serve<R: Wait + Clock>(
     stream: &TcpStream,
     asked: Asked,
 ) {
-    let mut to: &TcpStream = stream;
     match asked {
         Asked::Page {
             page: Page::Changes,
             is_head: false,
         } => {
             if visitors.watchers.enter() {
-                send_changes(rt, alloc, visitors.board, visitors.over, &mut to);
+                send_changes(rt, alloc, visitors.board, visitors.over, stream);
                 visitors.watchers.leave();
             }
         }
         asked => {
             let mut out = Vec::new(alloc);
             if put_answer(rt, alloc, visitors.board, asked, &mut out).is_ok() {
-                let _ = to.write_all(out.as_slice());
+                let _ = write_within(rt, stream, ANSWER_S, out.as_slice());
             }
             drop(out);
         }
@@ -191,7 +177,7 @@ fn read_head<R: Clock>(rt: &R, stream: &TcpStream, head: &mut Vec<u8>) -> Option
     let start = Instant::now(rt).ok()?;
     let mut piece = [0; 1024];
     for _ in 0..=MOST_HEAD {
-        let count = read_within(rt, stream, &start, PATIENCE_S, &mut piece)?;
+        let count = read_within(rt, stream, &start, REQUEST_S, &mut piece)?;
         head.extend_from_slice(piece.get(..count)?).ok()?;
         match read_request(head) {
             Asked::More if count > 0 => {}

@@ -35,4 +35,6 @@ mod sessions;
 #[cfg(test)]
 mod sets;
 #[cfg(test)]
+mod shown;
+#[cfg(test)]
 mod views;

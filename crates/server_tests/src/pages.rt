@@ -39,16 +39,12 @@ const ASKED: [(&str, &str, &str); 5] = [
     ),
 ];
 
-const VIEW: &str = r#"[{"node":1,"number":1,"text":"a","max":0,"flag":false,"set":[]}]"#;
+const VIEW: &str = r#"[{"node":1,"number":"1","text":"a","max":"0","flag":false,"set":[]}]"#;
 
-// Where the status counts one: the node's number, its member, its session, its row, and its ask.
-const ONES: [&str; 5] = [
-    "/id",
-    "/members/0",
-    "/sessions/0/request",
-    "/view/0/number",
-    "/counts/asks/store",
-];
+// Where the status counts one: the node's number, its member, and its ask; and, in digits, its session and its row.
+const ONES: [&str; 3] = ["/id", "/members/0", "/counts/asks/store"];
+
+const ONES_IN_DIGITS: [&str; 3] = ["/sessions/0/request", "/view/0/number", "/disk/generation"];
 
 // All that a node answers to these bytes.
 fn asked<R: Abort + AllocGlobal + Net<Stream = TcpStream>>(
@@ -92,10 +88,21 @@ fn number_at(status: &Value, path: &str) -> Option<u64> {
     status.pointer(path)?.as_u64()
 }
 
+fn digits_at<'a>(status: &'a Value, path: &str) -> Option<&'a str> {
+    status.pointer(path)?.as_str()
+}
+
 fn check_numbers<R: Abort>(rt: &R, status: &Value) {
     for &path in &ONES {
         assert!(rt; number_at(status, path) == Some(1), "{path}");
     }
+    for &path in &ONES_IN_DIGITS {
+        assert!(rt; digits_at(status, path) == Some("1"), "{path}");
+    }
+    assert!(rt;
+        number_at(status, "/quorum/away") == Some(0),
+        "nobody is away"
+    );
     let commits = number_at(status, "/counts/commits");
     assert!(rt;
         number_at(status, "/counts/batches/6/1") == commits,
