@@ -8,6 +8,8 @@ mod clients;
 mod duties;
 mod frames;
 mod incoming;
+mod last_asks;
+mod objecting;
 mod routes;
 mod speakers;
 mod standings;

@@ -70,6 +70,18 @@ fn an_ask_leaves_room_for_384_posts(rt: HostRuntime) {
     check_handing(&rt, asked(), &ASKS);
 }
 
+// An ask under number 0 is always refused, so it needs no room.
+const NUMBER_ZERO: Event = Event::Ask {
+    session: 7,
+    request: 0,
+    command: Command::SetFlag,
+};
+
+#[test]
+fn an_ask_under_number_0_is_never_held_back(rt: HostRuntime) {
+    check_handing(&rt, NUMBER_ZERO, &NEVER_HELD);
+}
+
 const MESSAGES: [Case; 3] = [
     (256, false, 0, true),
     (257, false, 60, false),

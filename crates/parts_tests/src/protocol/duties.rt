@@ -19,9 +19,14 @@ enum Does {
     BringsAgain,
 }
 
-// What a worker does.
+// What a worker does after an event that repeats no request with another command.
 fn does_after(event: Event, answer: Result<bool, Refusal>) -> Does {
-    let duty = heed(&event, answer);
+    does(event, answer, false)
+}
+
+// What a worker does after an event that differs from what its session asked last under its number, or doesn't.
+fn does(event: Event, answer: Result<bool, Refusal>, differs: bool) -> Does {
+    let duty = heed(&event, answer, differs);
     drop(event);
     let does = does_in(&duty);
     drop(duty);
@@ -126,6 +131,22 @@ fn a_client_is_answered_again_or_told_why_not(rt: HostRuntime) {
             Does::Refuses(7, 3, 12, 1),
             Does::Refuses(7, 3, 18, 0),
             Does::Refuses(0, 0, 1, 0)
+        ]
+    );
+}
+
+#[test]
+fn another_command_under_the_last_number_is_stale(rt: HostRuntime) {
+    let does = [
+        does(asked(5), Err(Refusal::Repeat), true),
+        does(asked(5), Err(Refusal::Skip(3)), true),
+        does(joined(id(2)), Err(Refusal::Old(4)), true),
+    ];
+    assert!(rt;
+        does == [
+            Does::Refuses(7, 5, 11, 5),
+            Does::Refuses(7, 5, 12, 3),
+            Does::Reacks(2)
         ]
     );
 }

@@ -14,7 +14,9 @@ fn check_spoken<R: Abort>(rt: &R, speakers: &mut Speakers, two: NodeId, three: N
         speakers.speak(two, 5),
     ];
     let second = [speakers.speak(three, 7), speakers.speak(two, 5)];
+    let spoken_for = [speakers.has_speaker(two), speakers.has_speaker(three)];
     speakers.leave(7);
+    assert!(rt; (spoken_for, speakers.has_speaker(three)) == ([true, true], false));
     let third = [speakers.speak(three, 6), speakers.speak(two, 6)];
     assert!(rt;
         first
