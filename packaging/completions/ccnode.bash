@@ -12,11 +12,12 @@ _ccnode_options() {
     case $1 in
         format) echo '--initial --contacts --beta --gamma --share --help' ;;
         run) echo '--listen --listen-clients --operators --peers --peers-file --status --log --help' ;;
-        ask) echo '--text --request --timeout --wait --json --help' ;;
+        ask) echo '--text --request --timeout --wait --status --json --help' ;;
         status) echo '--json --watch --help' ;;
         load) echo '--clients --seconds --collects --sessions-from --json --help' ;;
         dump) echo '--node --help' ;;
-        leave | retire | play) echo '--help' ;;
+        retire) echo '--peers-file --alive --help' ;;
+        leave | play) echo '--help' ;;
         '') echo '--help --version' ;;
     esac
 }

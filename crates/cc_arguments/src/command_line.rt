@@ -81,16 +81,21 @@ Commands, and what they print:
 
 It asks again where the node is busy or the connection breaks, under the same number,
 so that nothing is done twice. Else it prints `refused` and why, as `refused 4
-NotJoined`, or `no answer`, and on standard error whether nothing listens there: then
-it may still be done, and asking again does it once more. With --request the command
-is asked under that number and no other: it is done once, however often that line is
-run, and a number that isn't the session's last or the next is refused, 11 Stale or
-12 Skip. With --wait a node that isn't in the cluster yet is asked again until the
-time is over. With `store --text TEXT` any text of 1 to 64 bytes is stored.
+NotJoined`, `session in use` where another client uses the session, or `no answer`,
+and on standard error why none came, by the page at --status where that is given: then
+it may still be done, and asking again does it once more. An earlier ask of the session
+that is still on its way never takes its number: a reading goes before the command.
+With --request the command is asked under that number and no other: it is done once,
+however often that line is run, and a number that isn't the session's last or the next
+is refused, 11 Stale or 12 Skip. With --wait a node that isn't in the cluster yet is
+asked again until the time is over. With `store --text TEXT` any text of 1 to 64 bytes
+is stored.
 
-With --json it prints {\"answer\":\"Max\",\"max\":120} and the like, {\"refused\":\"Busy\",
-\"number\":13,\"carries\":0} or {\"no_answer\":true}. Statuses: 0 after an answer, 1 after
-a refusal or no answer, 2 after a command line that it doesn't take.";
+With --json it prints {\"answer\":\"Max\",\"max\":\"120\"} and the like, {\"refused\":\"Busy\",
+\"number\":13,\"carries\":\"0\"}, {\"session_in_use\":true} or {\"no_answer\":true}. Numbers
+that may exceed 2^53 are strings, and a text that isn't UTF-8 is `text_base64`. Statuses:
+0 after an answer, 1 after a refusal or no answer, 2 after a command line that it doesn't
+take.";
 
 const LEAVE_HELP: &str = "\
 Example: ccnode leave 127.0.0.1:7001
@@ -100,12 +105,15 @@ node tells the others, which don't wait for it any more. Statuses: 0 left, 1 not
 after a command line that it doesn't take.";
 
 const RETIRE_HELP: &str = "\
-Example: ccnode retire 127.0.0.1:7001 3
+Examples: ccnode retire 127.0.0.1:7001,127.0.0.1:7002 3
+          ccnode retire --peers-file peers 3
 
 To be done at each node that lives, once it is sure that the dead one never comes back.
-Prints `retired 3`, also where it was retired before or has left, and where the node
-that is asked has left itself; else `refused` and why, or `no answer`. Statuses: 0
-retired, 1 not, 2 after a command line that it doesn't take.";
+Prints `retired 3`, also where it was retired before or has left; `refused` and why, as
+`refused 1 Left` where the node that is asked has left itself; or `no answer`. Where
+several nodes are told it prints a line for each, which begins with its address. A node
+that was heard within three seconds is retired with --alive alone. Statuses: 0 where
+all took it, else 1, 2 after a command line that it doesn't take.";
 
 const STATUS_HELP: &str = "\
 Example: ccnode status 127.0.0.1:8001
@@ -114,7 +122,7 @@ Prints what the node tells of itself at the ADDR of `run --status`, a line for e
 part: whether it is ready or why not, how many members answer an operation, the round
 that is under way and the asks that wait, its sessions and posts, its disk and the
 times of its syncs, and for each peer whether it is there and how far it is behind.
-With --json it prints the JSON as it came. Where nothing comes it prints `no answer`.
+With --json it prints the JSON in a line. Where nothing comes it prints `no answer`.
 Statuses: 0 where the node is ready, 1 where it isn't or doesn't answer, 2 after a
 command line that it doesn't take.";
 
@@ -275,6 +283,11 @@ const ASK: Subcommand = Subcommand {
         ),
         Word::Option("timeout", "SECONDS", "How long it waits [default: 10]"),
         Word::Flag("wait", "Asks again while the node hasn't joined"),
+        Word::Option(
+            "status",
+            "ADDR",
+            "Where the node tells its status: says why no answer came",
+        ),
         Word::Flag("json", "Prints the answer as JSON, in a line"),
     ],
     help: ASK_HELP,
@@ -289,10 +302,19 @@ const LEAVE: Subcommand = Subcommand {
 
 const RETIRE: Subcommand = Subcommand {
     name: "retire",
-    about: "Tells a node that another one is dead for good",
+    about: "Tells nodes that another one is dead for good",
     words: &[
-        ADDRESS,
-        Word::Needed("ID", "The number of the node that is dead for good"),
+        Word::Needed(
+            "ADDRS",
+            "Where the nodes listen that are told, such as 127.0.0.1:7001,127.0.0.1:7002",
+        ),
+        Word::Spared("ID", "The number of the node that is dead for good"),
+        Word::Option(
+            "peers-file",
+            "FILE",
+            "A file of peers, in place of ADDRS: each node in it is told, but the dead one",
+        ),
+        Word::Flag("alive", "Retires it though it was heard a moment ago"),
     ],
     help: RETIRE_HELP,
 };
@@ -315,7 +337,7 @@ const STATUS: Subcommand = Subcommand {
             "ADDR",
             "Where the node tells its status, such as 127.0.0.1:8001",
         ),
-        Word::Flag("json", "Prints it as JSON, as it came"),
+        Word::Flag("json", "Prints it as JSON, in a line"),
         Word::Flag("watch", "Asks once a second, until the program is ended"),
     ],
     help: STATUS_HELP,

@@ -1,7 +1,7 @@
 //! What a command line asks for.
 
 use crate::command_line::command_line;
-use cc_orders::{AnswerForm, AskWords, FormatWords, LoadWords, RunWords};
+use cc_orders::{AnswerForm, AskWords, FormatWords, LoadWords, RetireWords, RunWords};
 use clap::ArgMatches;
 use std::alloc::Global;
 
@@ -26,11 +26,8 @@ pub enum Order<'a> {
     Leave {
         address: &'a str,
     },
-    /// Tell a node that another is dead.
-    Retire {
-        address: &'a str,
-        node: &'a str,
-    },
+    /// Tell nodes that another is dead.
+    Retire(RetireWords<'a>),
     /// Print what a node tells of itself.
     Status {
         address: &'a str,
@@ -95,10 +92,7 @@ fn order_at_node<'a>(name: &str, words: &ArgMatches<'a>) -> Option<Order<'a>> {
         "leave" => Some(Order::Leave {
             address: required(words, "ADDR"),
         }),
-        "retire" => Some(Order::Retire {
-            address: required(words, "ADDR"),
-            node: required(words, "ID"),
-        }),
+        "retire" => Some(Order::Retire(retire_words(words))),
         "status" => Some(Order::Status {
             address: required(words, "ADDR"),
             form: answer_form(words),
@@ -143,6 +137,16 @@ fn ask_words<'a>(words: &ArgMatches<'a>) -> AskWords<'a> {
         timeout: words.get_str("timeout"),
         form: answer_form(words),
         waits: words.get_flag("wait"),
+        status: words.get_str("status"),
+    }
+}
+
+fn retire_words<'a>(words: &ArgMatches<'a>) -> RetireWords<'a> {
+    RetireWords {
+        first: required(words, "ADDRS"),
+        second: words.get_str("ID"),
+        peers_file: words.get_str("peers-file"),
+        alive: words.get_flag("alive"),
     }
 }
 

@@ -1,13 +1,14 @@
 //! A command that is done at a node.
 
+use crate::advice::Advice;
 use crate::deadline::Deadline;
-use crate::printing::{print_answer, print_refusal, print_silence};
+use crate::printing::{print_answer, print_refusal, print_silence, print_use};
 use crate::sending::{connect, pause, receive, send};
 use crate::silence::{Silence, Told};
 use cc_frames::Frame;
 use cc_messages::{Answer, Refusal};
 use cc_orders::AskOrder;
-use cc_protocol::{Client, Heard, Incoming, Step};
+use cc_protocol::{Client, Heard, Incoming, Stage, Step};
 use std::alloc::Global;
 use std::io;
 use std::io::Write;
@@ -15,8 +16,8 @@ use std::net::{Net, TcpStream};
 use std::time::Clock;
 
 /// Has a command done: it asks, again where the node is busy or the connection breaks, or hasn't joined and the order waits
-/// for that, and always under one number, so that nothing is done twice. It prints the answer, `refused` and why, or `no
-/// answer` where none came in time, in the form of the order.
+/// for that, and always under one number, so that nothing is done twice. It prints the answer, `refused` and why, `session in
+/// use` where another client took the number, or `no answer` where none came in time, in the form of the order.
 pub fn ask_node<R: Net<Stream = TcpStream> + Clock, W: Write>(
     rt: &R,
     alloc: Global,
@@ -35,9 +36,9 @@ pub fn ask_node<R: Net<Stream = TcpStream> + Clock, W: Write>(
 
 // A client that knows the number of its request where the order has one.
 fn client_of(order: &AskOrder) -> Client {
-    Client {
-        request: order.request,
-        ..Client::new(order.session, order.command)
+    match order.request {
+        Some(request) => Client::numbered(order.session, order.command, request),
+        None => Client::new(order.session, order.command),
     }
 }
 
@@ -63,6 +64,7 @@ enum Next {
 #[derive(Drop)]
 enum Ended {
     Answered(Answer),
+    InUse,
     Refused(Refusal),
 }
 
@@ -81,7 +83,7 @@ impl Asking {
             }
             drop(self.client.hear(Heard::Broken));
             deadline.left(rt)?;
-            pause(rt);
+            pause(rt, &deadline);
         }
         None
     }
@@ -94,7 +96,7 @@ impl Asking {
         order: &AskOrder,
         deadline: &Deadline,
     ) -> Option<Ended> {
-        match connect(rt, &order.address) {
+        match connect(rt, &order.address, deadline) {
             Ok(stream) => {
                 self.silence = Silence::Mute(order.address);
                 self.converse(rt, alloc, &stream, deadline)
@@ -159,17 +161,20 @@ impl Asking {
                 next
             }
             Step::Wait => Some(Next::Listen),
-            Step::Retry(why) => Some(self.retry(rt, why)),
-            Step::Refused(why) if self.waits && is_outside(why) => Some(self.retry(rt, Some(why))),
+            Step::Retry(why) => Some(self.retry(rt, why, deadline)),
+            Step::Refused(why) if self.waits && is_outside(why) => {
+                Some(self.retry(rt, Some(why), deadline))
+            }
             Step::Done(answer) => Some(Next::End(Ended::Answered(answer))),
+            Step::InUse => Some(Next::End(Ended::InUse)),
             Step::Refused(why) => Some(Next::End(Ended::Refused(why))),
         }
     }
 
     // Pauses before it asks again, under the same number.
-    fn retry<R: Clock>(&mut self, rt: &R, why: Option<Refusal>) -> Next {
+    fn retry<R: Clock>(&mut self, rt: &R, why: Option<Refusal>, deadline: &Deadline) -> Next {
         self.refusal = why;
-        pause(rt);
+        pause(rt, deadline);
         Next::Again
     }
 
@@ -185,7 +190,18 @@ impl Asking {
         // From here on nobody knows what becomes of it.
         self.refusal = None;
         send(alloc, stream, frame)?;
+        self.silence = self.silence_after(self.silence);
         Some(Next::Listen)
+    }
+
+    // Why there is no answer where none comes to what was sent now. A node tells number 0 at once, whoever answers it.
+    fn silence_after(&self, before: Silence) -> Silence {
+        match (self.client.stage, before) {
+            (Stage::Fencing(_) | Stage::Asking(_), Silence::Mute(address)) => {
+                Silence::Taken(address)
+            }
+            _ => before,
+        }
     }
 
     // Prints how it ended.
@@ -203,6 +219,10 @@ impl Asking {
                 printed?;
                 Ok(Told::done())
             }
+            Some(Ended::InUse) => {
+                print_use(alloc, order.form, output)?;
+                Ok(Told::refused(Some(Advice::SessionInUse(order.session))))
+            }
             Some(Ended::Refused(why)) => self.print_why(alloc, order, Some(why), output),
             None => self.print_why(alloc, order, self.refusal, output),
         }
@@ -219,7 +239,7 @@ impl Asking {
         match why {
             Some(why) => {
                 print_refusal(alloc, order.form, why, output)?;
-                Ok(Told::refused())
+                Ok(Told::refused(advice_for(why)))
             }
             None => {
                 print_silence(alloc, order.form, output)?;
@@ -241,6 +261,13 @@ fn hear_next<R: Clock>(
         receive(rt, stream, incoming, deadline).map(Heard::Came)
     } else {
         Some(Heard::Ready)
+    }
+}
+
+fn advice_for(why: Refusal) -> Option<Advice> {
+    match why {
+        Refusal::TooManySessions => Some(Advice::TooManySessions),
+        _ => None,
     }
 }
 

@@ -1,5 +1,6 @@
-//! Answers as JSON, each in a line of its own.
+//! Answers as JSON, each in a line of its own. A number that may exceed 2^53 is a string, so that every reader of JSON keeps it.
 
+use base64::engine::general_purpose::STANDARD;
 use cc_messages::{Answer, Refusal};
 use cc_views::{Row, Text, View};
 use serde::Serialize;
@@ -12,18 +13,21 @@ use std::io;
 enum JsonAnswer<'a> {
     Stored,
     Seen { view: Vec<JsonRow<'a>> },
-    Max { max: u64 },
+    Max { max: String },
     Flag { flag: bool },
     Set { set: &'a [u32] },
 }
 
-// What a node stored last.
+// What a node stored last. Its text stands as it is where it is UTF-8, else in Base64.
 #[derive(Drop, Serialize)]
 struct JsonRow<'a> {
     node: u32,
-    number: u64,
-    text: String,
-    max: u64,
+    number: String,
+    #[serde(skip_serializing_if = "Option::is_none")]
+    text: Option<&'a str>,
+    #[serde(skip_serializing_if = "Option::is_none")]
+    text_base64: Option<String>,
+    max: String,
     flag: bool,
     set: &'a [u32],
 }
@@ -33,7 +37,12 @@ struct JsonRow<'a> {
 struct JsonRefusal<'a> {
     refused: &'a str,
     number: u8,
-    carries: u64,
+    carries: String,
+}
+
+#[derive(Drop, Serialize)]
+struct JsonInUse {
+    session_in_use: bool,
 }
 
 #[derive(Drop, Serialize)]
@@ -46,13 +55,21 @@ pub fn json_of_answer(alloc: Global, answer: &Answer) -> io::Result<String> {
     match answer {
         Answer::Stored => written(alloc, &JsonAnswer::Stored),
         Answer::Seen(view) => json_of_view(alloc, view),
-        Answer::Max(max) => written(alloc, &JsonAnswer::Max { max: *max }),
+        Answer::Max(max) => json_of_max(alloc, *max),
         Answer::Flag(flag) => written(alloc, &JsonAnswer::Flag { flag: *flag }),
         Answer::Set(numbers) => {
             let set = numbers.as_slice();
             written(alloc, &JsonAnswer::Set { set })
         }
     }
+}
+
+fn json_of_max(alloc: Global, max: u64) -> io::Result<String> {
+    let max = digits(alloc, max)?;
+    let answer = JsonAnswer::Max { max };
+    let json = written(alloc, &answer);
+    drop(answer);
+    json
 }
 
 fn json_of_view(alloc: Global, view: &View) -> io::Result<String> {
@@ -76,38 +93,32 @@ fn push_row<'a>(
     json: &mut Vec<JsonRow<'a>>,
     row: &'a Row,
 ) -> Result<(), AllocError> {
-    let text = text_of(alloc, &row.value.text)?;
     let row = JsonRow {
         node: row.node.number(),
-        number: row.number,
-        text,
-        max: row.value.max,
+        number: digits(alloc, row.number)?,
+        text: utf8_of(&row.value.text),
+        text_base64: base64_of(alloc, &row.value.text)?,
+        max: digits(alloc, row.value.max)?,
         flag: row.value.flag,
         set: row.value.set.as_slice(),
     };
     json.push(row).or(Err(AllocError))
 }
 
-// A text as it is where it is UTF-8, else as `play` prints it: letters, digits, `.`, `_` and `-` as they are, every other
-// byte as `%` and two hexadecimal digits.
-fn text_of(alloc: Global, text: &Text) -> Result<String, AllocError> {
-    let bytes = text.as_bytes();
-    match str::from_utf8(bytes) {
-        Ok(text) => String::from_str(alloc, text),
-        Err(_) => spelled(alloc, bytes),
+fn utf8_of(text: &Text) -> Option<&str> {
+    str::from_utf8(text.as_bytes()).ok()
+}
+
+// None for a text that is UTF-8.
+fn base64_of(alloc: Global, text: &Text) -> Result<Option<String>, AllocError> {
+    match utf8_of(text) {
+        Some(_) => Ok(None),
+        None => Ok(Some(STANDARD.encode(alloc, text.as_bytes())?)),
     }
 }
 
-fn spelled(alloc: Global, bytes: &[u8]) -> Result<String, AllocError> {
-    let mut text = String::new(alloc);
-    for &byte in bytes {
-        if byte.is_ascii_alphanumeric() || matches!(byte, b'.' | b'_' | b'-') {
-            text.push(byte as char)?;
-        } else {
-            write!(text, "%{byte:02x}")?;
-        }
-    }
-    Ok(text)
+fn digits(alloc: Global, number: u64) -> Result<String, AllocError> {
+    format!(in alloc; "{number}")
 }
 
 /// A refusal as JSON. The only error is a refused growth.
@@ -117,11 +128,22 @@ pub fn json_of_refusal(alloc: Global, why: Refusal) -> io::Result<String> {
     let refusal = JsonRefusal {
         refused,
         number: why.number(),
-        carries: why.value(),
+        carries: digits(alloc, why.value())?,
     };
     let json = written(alloc, &refusal);
+    drop(refusal);
     drop(printed);
     json
+}
+
+/// What is printed as JSON where another client uses the session. The only error is a refused growth.
+pub fn json_of_use(alloc: Global) -> io::Result<String> {
+    written(
+        alloc,
+        &JsonInUse {
+            session_in_use: true,
+        },
+    )
 }
 
 /// What is printed as JSON where no answer came. The only error is a refused growth.

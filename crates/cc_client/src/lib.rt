@@ -2,6 +2,7 @@
 //! the clients of a load too.
 #![tactic(auto)]
 
+mod advice;
 mod asking;
 mod deadline;
 mod json;
@@ -10,6 +11,7 @@ mod printing;
 mod sending;
 mod silence;
 
+pub use advice::Advice;
 pub use asking::ask_node;
 pub use deadline::Deadline;
 pub use operating::{leave_node, retire_node};

@@ -1,13 +1,13 @@
 //! What the operator asks of a node.
 
+use crate::advice::Advice;
 use crate::deadline::Deadline;
-use crate::printing::{print_refusal, print_silence};
 use crate::sending::{connect, receive, send};
 use crate::silence::{Silence, Told};
 use cc_frames::Frame;
 use cc_messages::Refusal;
-use cc_orders::{AnswerForm, LeaveOrder, RetireOrder};
-use cc_protocol::{Incoming, Outcome, outcome_of};
+use cc_orders::{LeaveOrder, RetireOrder};
+use cc_protocol::{Incoming, Objection, Outcome, Retirement, outcome_of, probe_frame};
 use std::alloc::Global;
 use std::io;
 use std::io::Write;
@@ -24,106 +24,190 @@ pub fn leave_node<R: Net<Stream = TcpStream> + Clock, W: Write>(
     order: &LeaveOrder,
     output: &mut W,
 ) -> io::Result<Told> {
-    match bring(rt, alloc, &order.address, &Frame::Leave) {
-        Ok(()) => {
-            writeln!(output, "left")?;
-            output.flush()?;
-            Ok(Told::done())
-        }
-        Err(why) => print_undone(alloc, why, output),
+    let request = Request::Leave;
+    let brought = request.bring(rt, alloc, &order.address);
+    if let Ok(Outcome::Done) = brought {
+        writeln!(output, "left")?;
     }
+    print_undone(&order.address, brought, output)
 }
 
-/// Tells a node that another is dead for good. It prints `retired` and the dead node's id; else as `leave_node`.
+/// Tells a node of an order that another is dead for good. It prints `retired` and the dead node's id; else as `leave_node`,
+/// with a refusal where the node has left that is told. Where the order has several nodes, the address of this one stands
+/// before it.
 pub fn retire_node<R: Net<Stream = TcpStream> + Clock, W: Write>(
     rt: &R,
     alloc: Global,
     order: &RetireOrder,
+    address: &SocketAddr,
     output: &mut W,
 ) -> io::Result<Told> {
-    let RetireOrder { address, node } = *order;
-    let request = Frame::Retire { node };
-    let brought = bring(rt, alloc, &address, &request);
-    drop(request);
-    match brought {
-        Ok(()) => {
-            writeln!(output, "retired {}", node.number())?;
-            output.flush()?;
-            Ok(Told::done())
-        }
-        Err(why) => print_undone(alloc, why, output),
-    }
-}
-
-// Why a request isn't done.
-#[derive(Clone, Copy)]
-enum Undone {
-    Refused(Refusal),
-    Silent(Silence),
-}
-
-fn print_undone<W: Write>(alloc: Global, why: Undone, output: &mut W) -> io::Result<Told> {
-    match why {
-        Undone::Refused(why) => {
-            print_refusal(alloc, AnswerForm::Plain, why, output)?;
-            Ok(Told::refused())
-        }
-        Undone::Silent(silence) => {
-            print_silence(alloc, AnswerForm::Plain, output)?;
-            Ok(Told::silent(silence))
-        }
-    }
-}
-
-// Brings a request, and brings it again, since only a refusal is answered.
-fn bring<R: Net<Stream = TcpStream> + Clock>(
-    rt: &R,
-    alloc: Global,
-    address: &SocketAddr,
-    request: &Frame,
-) -> Result<(), Undone> {
-    let stream = match connect(rt, address) {
-        Ok(stream) => stream,
-        Err(silence) => return Err(Undone::Silent(silence)),
+    let node = order.node;
+    let request = match order.even_alive {
+        true => Request::Retire(Frame::Retire { node }),
+        false => Request::Retire(Frame::RetireIfSilent { node }),
     };
-    let outcome = outcome(rt, alloc, &stream, request);
-    drop(stream);
-    match outcome {
-        Some(Outcome::Done) => Ok(()),
-        Some(Outcome::Refused(why)) => Err(Undone::Refused(why)),
-        None => Err(Undone::Silent(Silence::Mute(*address))),
+    let brought = request.bring(rt, alloc, address);
+    drop(request);
+    if order.addresses.len() > 1 {
+        write!(output, "{address} ")?;
     }
+    if let Ok(Outcome::Done) = brought {
+        writeln!(output, "retired {}", node.number())?;
+    }
+    print_undone(address, brought, output)
 }
 
-fn outcome<R: Clock>(
-    rt: &R,
-    alloc: Global,
-    stream: &TcpStream,
-    request: &Frame,
-) -> Option<Outcome> {
-    let mut incoming = Incoming::new(alloc, stream).ok()?;
-    let outcome = exchange(rt, alloc, stream, &mut incoming, request);
-    drop(incoming);
-    outcome
+// Prints why a request isn't done, if it isn't.
+fn print_undone<W: Write>(
+    address: &SocketAddr,
+    brought: Result<Outcome, Silence>,
+    output: &mut W,
+) -> io::Result<Told> {
+    let told = match brought {
+        Ok(Outcome::Done) => Told::done(),
+        Ok(Outcome::Refused(why)) => {
+            print_refused(why, output)?;
+            Told::refused(None)
+        }
+        Ok(Outcome::Objected(why)) => print_objection(address, why, output)?,
+        Err(silence) => {
+            writeln!(output, "no answer")?;
+            Told::silent(silence)
+        }
+    };
+    output.flush()?;
+    Ok(told)
 }
 
-fn exchange<R: Clock>(
-    rt: &R,
-    alloc: Global,
-    stream: &TcpStream,
-    incoming: &mut Incoming<&TcpStream>,
-    request: &Frame,
-) -> Option<Outcome> {
-    let deadline = Deadline::new(rt, PATIENCE);
-    send(alloc, stream, request)?;
-    send(alloc, stream, request)?;
-    for _ in 0..u64::MAX {
-        let frame = receive(rt, stream, incoming, &deadline)?;
-        let outcome = outcome_of(&frame);
-        drop(frame);
-        if outcome.is_some() {
-            return outcome;
+fn print_refused<W: Write>(why: Refusal, output: &mut W) -> io::Result<()> {
+    writeln!(output, "refused {why}")
+}
+
+fn print_objection<W: Write>(
+    address: &SocketAddr,
+    why: Objection,
+    output: &mut W,
+) -> io::Result<Told> {
+    let (name, advice) = match why {
+        Objection::Itself => ("Itself", Advice::Itself(*address)),
+        Objection::Alive => ("Alive", Advice::Alive),
+    };
+    let number = why.number();
+    writeln!(output, "refused {number} {name}")?;
+    Ok(Told::refused(Some(advice)))
+}
+
+// What the operator asks of a node. It is sent twice, since only a refusal is answered.
+#[derive(Drop)]
+enum Request {
+    Leave,
+    // By this frame. Behind the second one a probe is sent.
+    Retire(Frame),
+}
+
+// What the operator has heard so far.
+#[derive(Clone, Copy)]
+enum Watch {
+    Leave,
+    Retirement(Retirement),
+}
+
+impl Request {
+    // Brings it over a connection of its own, and tells what it came to.
+    fn bring<R: Net<Stream = TcpStream> + Clock>(
+        &self,
+        rt: &R,
+        alloc: Global,
+        address: &SocketAddr,
+    ) -> Result<Outcome, Silence> {
+        let deadline = Deadline::new(rt, PATIENCE);
+        let stream = connect(rt, address, &deadline)?;
+        let outcome = self.converse(rt, alloc, &stream, &deadline);
+        drop(stream);
+        outcome.ok_or(Silence::Mute(*address))
+    }
+
+    fn converse<R: Clock>(
+        &self,
+        rt: &R,
+        alloc: Global,
+        stream: &TcpStream,
+        deadline: &Deadline,
+    ) -> Option<Outcome> {
+        let mut incoming = Incoming::new(alloc, stream).ok()?;
+        let outcome = match self.send(alloc, stream) {
+            Some(()) => self.watch().hear_all(rt, stream, &mut incoming, deadline),
+            None => None,
+        };
+        drop(incoming);
+        outcome
+    }
+
+    fn send(&self, alloc: Global, stream: &TcpStream) -> Option<()> {
+        match self {
+            Request::Leave => {
+                send(alloc, stream, &Frame::Leave)?;
+                send(alloc, stream, &Frame::Leave)
+            }
+            Request::Retire(frame) => {
+                send(alloc, stream, frame)?;
+                send(alloc, stream, frame)?;
+                send_probe(alloc, stream)
+            }
         }
     }
-    None
+
+    fn watch(&self) -> Watch {
+        match self {
+            Request::Leave => Watch::Leave,
+            Request::Retire(_) => Watch::Retirement(Retirement::new()),
+        }
+    }
+}
+
+fn send_probe(alloc: Global, stream: &TcpStream) -> Option<()> {
+    let probe = probe_frame();
+    let sent = send(alloc, stream, &probe);
+    drop(probe);
+    sent
+}
+
+impl Watch {
+    // Takes frames in until one tells what the request came to, or none comes any more.
+    fn hear_all<R: Clock>(
+        &mut self,
+        rt: &R,
+        stream: &TcpStream,
+        incoming: &mut Incoming<&TcpStream>,
+        deadline: &Deadline,
+    ) -> Option<Outcome> {
+        for _ in 0..u64::MAX {
+            let Some(frame) = receive(rt, stream, incoming, deadline) else {
+                // Where time is over the connection may be open, and more may come.
+                deadline.left(rt)?;
+                return self.end();
+            };
+            let outcome = self.hear(&frame);
+            drop(frame);
+            if outcome.is_some() {
+                return outcome;
+            }
+        }
+        None
+    }
+
+    fn hear(&mut self, frame: &Frame) -> Option<Outcome> {
+        match self {
+            Watch::Leave => outcome_of(frame),
+            Watch::Retirement(retirement) => retirement.hear(frame),
+        }
+    }
+
+    fn end(&self) -> Option<Outcome> {
+        match self {
+            Watch::Leave => None,
+            Watch::Retirement(retirement) => retirement.end(),
+        }
+    }
 }

@@ -1,9 +1,9 @@
 //! What a client prints.
 
-use crate::json::{json_of_answer, json_of_refusal, json_of_silence};
+use crate::json::{json_of_answer, json_of_refusal, json_of_silence, json_of_use};
 use cc_messages::{Answer, Refusal};
 use cc_orders::AnswerForm;
-use cc_texts::PrintedAnswer;
+use cc_texts::{HarmlessJson, PrintedAnswer};
 use std::alloc::Global;
 use std::io;
 use std::io::Write;
@@ -17,7 +17,10 @@ pub fn print_answer<W: Write>(
 ) -> io::Result<()> {
     match form {
         AnswerForm::Plain => writeln!(output, "{}", PrintedAnswer(answer))?,
-        AnswerForm::Json => writeln!(output, "{}", json_of_answer(alloc, answer)?)?,
+        AnswerForm::Json => {
+            let json = json_of_answer(alloc, answer)?;
+            writeln!(output, "{}", HarmlessJson(json.as_str()))?;
+        }
     }
     output.flush()
 }
@@ -32,6 +35,15 @@ pub fn print_refusal<W: Write>(
     match form {
         AnswerForm::Plain => writeln!(output, "refused {why}")?,
         AnswerForm::Json => writeln!(output, "{}", json_of_refusal(alloc, why)?)?,
+    }
+    output.flush()
+}
+
+/// Prints that another client uses the session.
+pub fn print_use<W: Write>(alloc: Global, form: AnswerForm, output: &mut W) -> io::Result<()> {
+    match form {
+        AnswerForm::Plain => writeln!(output, "session in use")?,
+        AnswerForm::Json => writeln!(output, "{}", json_of_use(alloc)?)?,
     }
     output.flush()
 }

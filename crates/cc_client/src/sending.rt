@@ -15,17 +15,27 @@ const CONNECT_MS: u64 = 1000;
 
 const PAUSE_MS: u64 = 200;
 
-/// Pauses before the next try.
-pub fn pause<R: Clock>(rt: &R) {
-    thread::sleep(rt, Duration::from_millis(PAUSE_MS));
+/// Pauses before the next try, and no longer than the deadline.
+pub fn pause<R: Clock>(rt: &R, deadline: &Deadline) {
+    if let Some(pause) = within(rt, deadline, PAUSE_MS) {
+        thread::sleep(rt, pause);
+    }
 }
 
-/// A connection to a node, which is made within a second; else why none is.
-pub fn connect<R: Net<Stream = TcpStream>>(
+// So many milliseconds, or what is left of the deadline. None once it is over.
+fn within<R: Clock>(rt: &R, deadline: &Deadline, millis: u64) -> Option<Duration> {
+    Some(deadline.left(rt)?.min(Duration::from_millis(millis)))
+}
+
+/// A connection to a node, which is made within a second and before the deadline is over; else why none is.
+pub fn connect<R: Net<Stream = TcpStream> + Clock>(
     rt: &R,
     address: &SocketAddr,
+    deadline: &Deadline,
 ) -> Result<TcpStream, Silence> {
-    let patience = Duration::from_millis(CONNECT_MS);
+    let Some(patience) = within(rt, deadline, CONNECT_MS) else {
+        return Err(Silence::Mute(*address));
+    };
     match TcpStream::connect_timeout(rt, address, patience) {
         Ok(stream) => {
             let _ = stream.set_nodelay(true);

@@ -1,5 +1,6 @@
 //! Why no answer came.
 
+use crate::advice::Advice;
 use std::error::Error;
 use std::fmt;
 use std::net::SocketAddr;
@@ -9,8 +10,10 @@ use std::net::SocketAddr;
 pub enum Silence {
     /// Nothing listens there: the last try to connect was refused.
     Closed(SocketAddr),
-    /// No connection could be made there in a second, or no answer came over one.
+    /// No connection could be made there in a second, or nothing came over one.
     Mute(SocketAddr),
+    /// What was asked was sent there, and no answer came.
+    Taken(SocketAddr),
 }
 
 impl fmt::Display for Silence {
@@ -18,6 +21,9 @@ impl fmt::Display for Silence {
         match self {
             Silence::Closed(address) => write!(f, "nothing listens at {address}"),
             Silence::Mute(address) => write!(f, "{address} doesn't answer"),
+            Silence::Taken(address) => {
+                write!(f, "{address} took the request, but too few members answer")
+            }
         }
     }
 }
@@ -31,6 +37,8 @@ pub struct Told {
     pub status: u8,
     /// Why no answer came, where none did.
     pub silence: Option<Silence>,
+    /// What is to be done about it, where that can be said.
+    pub advice: Option<Advice>,
 }
 
 impl Told {
@@ -38,13 +46,15 @@ impl Told {
         Told {
             status: 0,
             silence: None,
+            advice: None,
         }
     }
 
-    pub(crate) fn refused() -> Self {
+    pub(crate) fn refused(advice: Option<Advice>) -> Self {
         Told {
             status: 1,
             silence: None,
+            advice,
         }
     }
 
@@ -52,6 +62,7 @@ impl Told {
         Told {
             status: 1,
             silence: Some(silence),
+            advice: None,
         }
     }
 }

@@ -5,7 +5,7 @@ use cc_client::{Deadline, Silence, connect, pause, receive, send};
 use cc_frames::Frame;
 use cc_messages::Refusal;
 use cc_orders::Operation;
-use cc_protocol::{Client, Heard, Incoming, Step};
+use cc_protocol::{Client, Heard, Incoming, Stage, Step};
 use std::alloc::Global;
 use std::net::{Net, SocketAddr, TcpStream};
 use std::thread;
@@ -44,8 +44,8 @@ enum Next {
     End,
 }
 
-/// Asks as soon as it was answered, until the time is over: what it counted. It learns the number of its first request by
-/// asking under 0, and that time isn't counted.
+/// Asks as soon as it was answered, until the time is over: what it counted. The time until its first operation has a number
+/// isn't counted.
 pub fn ask_for_long<R: Net<Stream = TcpStream> + Clock>(
     rt: &R,
     alloc: Global,
@@ -81,7 +81,7 @@ impl Worker {
             if self.task.time.left(rt).is_none() {
                 return;
             }
-            pause(rt);
+            pause(rt, &self.task.time);
         }
     }
 
@@ -91,7 +91,7 @@ impl Worker {
         rt: &R,
         alloc: Global,
     ) -> Result<(), Silence> {
-        let stream = connect(rt, &self.task.address)?;
+        let stream = connect(rt, &self.task.address, &self.task.patience)?;
         let conversed = self.converse(rt, alloc, &stream);
         drop(stream);
         match conversed {
@@ -135,10 +135,10 @@ impl Worker {
         stream: &TcpStream,
         heard: Heard,
     ) -> Option<Next> {
-        let is_learning = self.client.request.is_none();
+        let has_number = self.has_number();
         match self.client.hear(heard) {
             Step::Send(frame) => {
-                if is_learning {
+                if !has_number {
                     self.since = micros(rt);
                 }
                 let next = self.send(rt, alloc, stream, &frame);
@@ -151,8 +151,14 @@ impl Worker {
                 drop(answer);
                 Some(self.finish(rt))
             }
+            Step::InUse => Some(self.find_in_use()),
             Step::Refused(why) => Some(self.give_up(Some(why))),
         }
+    }
+
+    // Whether its operation has a number: its time is counted from then on.
+    fn has_number(&self) -> bool {
+        matches!(self.client.stage, Stage::Asking(_))
     }
 
     fn send<R: Clock>(
@@ -182,10 +188,7 @@ impl Worker {
             return self.give_up(None);
         }
         self.since = now;
-        self.client.request = match self.client.request {
-            Some(request) => request.checked_add(1),
-            None => None,
-        };
+        self.client.go_on();
         match self.task.time.left(rt) {
             Some(_) => Next::Ask,
             None => Next::End,
@@ -195,5 +198,11 @@ impl Worker {
     fn give_up(&mut self, why: Option<Refusal>) -> Next {
         self.tally.end(why);
         Next::End
+    }
+
+    // Another client uses its session.
+    fn find_in_use(&mut self) -> Next {
+        self.tally.in_use = self.tally.in_use.saturating_add(1);
+        self.give_up(None)
     }
 }

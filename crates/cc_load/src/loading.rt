@@ -121,6 +121,7 @@ fn print_tally<W: Write>(
     Ok(Told {
         status,
         silence: tally.silence,
+        advice: None,
     })
 }
 

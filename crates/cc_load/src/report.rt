@@ -33,6 +33,8 @@ pub struct Report {
     /// How many clients ended before the time was over, and why one of them was refused.
     pub ended: u64,
     pub refused: Option<String>,
+    /// How many of them found that another client uses their session.
+    pub in_use: u64,
 }
 
 /// How many operations took up to so many microseconds, and more than half of that.
@@ -75,6 +77,7 @@ impl Report {
             lost: tally.lost,
             ended: tally.ended,
             refused,
+            in_use: tally.in_use,
         })
     }
 
@@ -191,10 +194,14 @@ fn print_troubles<W: fmt::Write>(f: &mut fmt::Formatter<W>, report: &Report) -> 
             f,
             "ended     {ended} clients early, refused {}",
             why.as_str()
-        ),
-        None if ended > 0 => writeln!(f, "ended     {ended} clients early"),
-        None => Ok(()),
+        )?,
+        None if ended > 0 => writeln!(f, "ended     {ended} clients early")?,
+        None => {}
     }
+    if report.in_use > 0 {
+        writeln!(f, "in use    {} sessions, by other clients", report.in_use)?;
+    }
+    Ok(())
 }
 
 // Microseconds as milliseconds, with three decimals.

@@ -15,6 +15,8 @@ pub struct Tally {
     pub lost: u64,
     /// How many clients ended before the time was over.
     pub ended: u64,
+    /// How many of these ended since another client uses their session.
+    pub in_use: u64,
     /// Why a node refused one of these.
     pub refusal: Option<Refusal>,
     /// Why the last connection that was lost brought no answer.
@@ -29,6 +31,7 @@ impl Tally {
             again: 0,
             lost: 0,
             ended: 0,
+            in_use: 0,
             refusal: None,
             silence: None,
         }
@@ -39,6 +42,7 @@ impl Tally {
         self.again = self.again.saturating_add(other.again);
         self.lost = self.lost.saturating_add(other.lost);
         self.ended = self.ended.saturating_add(other.ended);
+        self.in_use = self.in_use.saturating_add(other.in_use);
         self.refusal = self.refusal.or(other.refusal);
         self.silence = self.silence.or(other.silence);
         if self.latencies.append(&other.latencies).is_err() {

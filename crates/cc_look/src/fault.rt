@@ -12,6 +12,8 @@ pub enum LookFault {
     Closed(SocketAddr),
     /// No connection could be made there, or no whole answer came over one in five seconds.
     Mute(SocketAddr),
+    /// The node has just been started, and tells its status within a second.
+    Starting(SocketAddr),
     /// What came isn't the status of a node.
     Other(SocketAddr),
     /// More than 4 MiB came.
@@ -25,6 +27,10 @@ impl fmt::Display for LookFault {
         match self {
             LookFault::Closed(address) => write!(f, "nothing listens at {address}"),
             LookFault::Mute(address) => write!(f, "{address} doesn't answer"),
+            LookFault::Starting(address) => write!(
+                f,
+                "the node at {address} has just been started: ask again in a second"
+            ),
             LookFault::Other(address) => {
                 write!(
                     f,

@@ -9,9 +9,10 @@ mod status;
 mod table;
 
 pub use fault::LookFault;
-pub use head::body_of;
-pub use looking::{Look, look_at};
+pub use head::{body_of, reason_of};
+pub use looking::{Look, look_at, reason_at};
 pub use status::{
-    CountPart, DiskPart, PeerPart, PostPart, QuorumPart, RoundPart, RowPart, Status, SyncPart,
+    CountPart, DiskPart, PeerPart, PostPart, QuorumPart, RoundPart, RowPart, RowText, Status,
+    SyncPart,
 };
 pub use table::Table;

@@ -1,17 +1,26 @@
 //! A look at a node.
 
 use crate::fault::LookFault;
-use crate::fetching::fetch;
-use crate::head::body_of;
+use crate::fetching::{Place, fetch};
+use crate::head::{body_of, reason_of};
 use crate::status::Status;
 use crate::table::Table;
 use cc_orders::{AnswerForm, StatusOrder};
+use cc_texts::HarmlessJson;
 use serde_json::Value;
 use std::alloc::Global;
 use std::io;
 use std::io::Write;
-use std::net::{Net, TcpStream};
+use std::net::{Net, SocketAddr, TcpStream};
 use std::time::Clock;
+
+// For how many seconds a status is read, and a reason.
+const PATIENCE: u64 = 5;
+
+const SHORT_PATIENCE: u64 = 1;
+
+// Why a node isn't ready that has laid out nothing yet.
+const STARTING: &str = "it has just been started";
 
 /// How a look at a node ended.
 #[derive(Clone, Copy, PartialEq, Eq)]
@@ -22,7 +31,7 @@ pub struct Look {
     pub fault: Option<LookFault>,
 }
 
-/// Asks a node what it tells of itself, and prints that as a table, or as it came; `no answer` where nothing came, or
+/// Asks a node what it tells of itself, and prints that as a table, or as JSON in a line; `no answer` where nothing came, or
 /// something else.
 pub fn look_at<R: Net<Stream = TcpStream> + Clock, W: Write>(
     rt: &R,
@@ -30,7 +39,12 @@ pub fn look_at<R: Net<Stream = TcpStream> + Clock, W: Write>(
     order: &StatusOrder,
     output: &mut W,
 ) -> io::Result<Look> {
-    let looked = match fetch(rt, alloc, &order.address) {
+    let place = Place {
+        address: &order.address,
+        page: "/status.json",
+        patience: PATIENCE,
+    };
+    let looked = match fetch(rt, alloc, &place) {
         Ok(answer) => print_answer(alloc, order, &answer, output)?,
         Err(fault) => Err(fault),
     };
@@ -41,6 +55,22 @@ pub fn look_at<R: Net<Stream = TcpStream> + Clock, W: Write>(
         }),
         Err(fault) => print_fault(fault, output),
     }
+}
+
+/// Why the node at an address, where it tells its status, isn't ready. None where it is, or no reason comes within a second or
+/// two.
+pub fn reason_at<R: Net<Stream = TcpStream> + Clock>(
+    rt: &R,
+    alloc: Global,
+    address: &SocketAddr,
+) -> Option<String> {
+    let place = Place {
+        address,
+        page: "/readyz",
+        patience: SHORT_PATIENCE,
+    };
+    let answer = fetch(rt, alloc, &place).ok()?;
+    String::from_str(alloc, reason_of(&answer)?).ok()
 }
 
 fn print_fault<W: Write>(fault: LookFault, output: &mut W) -> io::Result<Look> {
@@ -60,11 +90,19 @@ fn print_answer<W: Write>(
     output: &mut W,
 ) -> io::Result<Result<bool, LookFault>> {
     let Some(text) = text_of(answer) else {
-        return Ok(Err(LookFault::Other(order.address)));
+        return Ok(Err(fault_of(order, answer)));
     };
     match Value::from_str(alloc, text) {
         Ok(value) => print_value(order, text, &value, output),
         Err(_) => Ok(Err(LookFault::Other(order.address))),
+    }
+}
+
+// Why an answer is no status.
+fn fault_of(order: &StatusOrder, answer: &[u8]) -> LookFault {
+    match reason_of(answer) {
+        Some(STARTING) => LookFault::Starting(order.address),
+        _ => LookFault::Other(order.address),
     }
 }
 
@@ -92,7 +130,7 @@ fn print_status<W: Write>(
 ) -> io::Result<Result<bool, LookFault>> {
     match form {
         AnswerForm::Plain => write!(output, "{}", Table(*status))?,
-        AnswerForm::Json => writeln!(output, "{}", text.trim_ascii())?,
+        AnswerForm::Json => writeln!(output, "{}", HarmlessJson(text.trim_ascii()))?,
     }
     output.flush()?;
     Ok(Ok(status.is_ready))

@@ -1,5 +1,5 @@
 //! What is read of a node's status. It may have more members, and they are passed over. Moments are milliseconds since 1970 by
-//! the node's clock.
+//! the node's clock. A number may be a string of digits, as those are that may exceed 2^53, but of older nodes.
 
 use serde_json::{Map, Value};
 
@@ -15,6 +15,7 @@ pub struct Status<'a> {
     pub reason: &'a str,
     pub quorum: QuorumPart<'a>,
     pub members: &'a [Value],
+    pub left: &'a [Value],
     /// Each of them is read by `RowPart::of`.
     pub view: &'a [Value],
     pub round: Option<RoundPart<'a>>,
@@ -45,10 +46,17 @@ pub struct QuorumPart<'a> {
 pub struct RowPart<'a> {
     pub node: u64,
     pub number: u64,
-    pub text: &'a str,
+    pub text: RowText<'a>,
     pub max: u64,
     pub flag: bool,
     pub set: &'a [Value],
+}
+
+/// The text of a row: as it is where it is UTF-8, else in Base64.
+#[derive(Clone, Copy)]
+pub enum RowText<'a> {
+    Plain(&'a str),
+    Base64(&'a str),
 }
 
 /// The pending round.
@@ -78,6 +86,8 @@ pub struct PeerPart<'a> {
     pub address: Option<&'a str>,
     pub connected_since: Option<u64>,
     pub absent_since: Option<u64>,
+    /// Whether nothing of it was heard for a while. An older node doesn't tell.
+    pub is_silent: bool,
     /// How many posts it hasn't acknowledged.
     pub behind: u64,
     pub acknowledged: u64,
@@ -120,7 +130,15 @@ fn text<'a>(value: &'a Value, name: &str) -> Option<&'a str> {
 }
 
 fn number(value: &Value, name: &str) -> Option<u64> {
-    value.get(name)?.as_u64()
+    number_of(value.get(name)?)
+}
+
+/// The number that a value is, or that its digits spell.
+pub(crate) fn number_of(value: &Value) -> Option<u64> {
+    match value.as_str() {
+        Some(digits) => digits.parse().ok(),
+        None => value.as_u64(),
+    }
 }
 
 fn flag(value: &Value, name: &str) -> Option<bool> {
@@ -144,6 +162,7 @@ impl<'a> Status<'a> {
             reason: text(value, "reason")?,
             quorum: QuorumPart::in_status(value)?,
             members: numbers(value, "members")?,
+            left: numbers(value, "left")?,
             view: rows_in(value)?,
             round: round_in(value)?,
             waiting: number(value, "waiting")?,
@@ -162,7 +181,7 @@ impl<'a> Status<'a> {
 fn numbers<'a>(value: &'a Value, name: &str) -> Option<&'a [Value]> {
     let items = list(value, name)?;
     for item in items {
-        item.as_u64()?;
+        number_of(item)?;
     }
     Some(items)
 }
@@ -211,11 +230,20 @@ impl<'a> RowPart<'a> {
         Some(RowPart {
             node: number(value, "node")?,
             number: number(value, "number")?,
-            text: text(value, "text")?,
+            text: RowText::in_row(value)?,
             max: number(value, "max")?,
             flag: flag(value, "flag")?,
             set: numbers(value, "set")?,
         })
+    }
+}
+
+impl<'a> RowText<'a> {
+    fn in_row(row: &'a Value) -> Option<Self> {
+        match text(row, "text") {
+            Some(text) => Some(RowText::Plain(text)),
+            None => Some(RowText::Base64(text(row, "text_base64")?)),
+        }
     }
 }
 
@@ -252,6 +280,7 @@ impl<'a> PeerPart<'a> {
             address: text(value, "address"),
             connected_since: number(value, "connected_since"),
             absent_since: number(value, "absent_since"),
+            is_silent: flag(value, "is_silent").unwrap_or(false),
             behind: number(value, "behind")?,
             acknowledged: number(value, "acknowledged")?,
             heard: number(value, "heard")?,

@@ -1,10 +1,14 @@
 //! A node's status as a table.
 
-use crate::status::{CountPart, PeerPart, QuorumPart, RoundPart, RowPart, Status};
+use crate::status::{
+    CountPart, PeerPart, QuorumPart, RoundPart, RowPart, RowText, Status, number_of,
+};
+use cc_texts::{Harmless, Quoted};
 use serde_json::{Map, Value};
 use std::fmt;
 
 /// A line for each part of the status, which begins with its word, and then a line for each peer and each row of the view.
+/// Whatever the node says, a terminal finds no command in it.
 #[derive(Clone, Copy)]
 pub struct Table<'a>(pub Status<'a>);
 
@@ -15,6 +19,8 @@ impl fmt::Display for Table<'_> {
         print_quorum(f, &status.quorum)?;
         write!(f, "members   ")?;
         print_numbers(f, status.members)?;
+        write!(f, "\nleft      ")?;
+        print_numbers(f, status.left)?;
         writeln!(f, "")?;
         print_round(f, status)?;
         print_use(f, status)?;
@@ -26,8 +32,8 @@ impl fmt::Display for Table<'_> {
 }
 
 fn print_node<W: fmt::Write>(f: &mut fmt::Formatter<W>, status: &Status<'_>) -> fmt::Result {
-    let (id, version) = (status.id, status.version);
-    let (standing, reason) = (status.standing, status.reason);
+    let (id, version) = (status.id, Harmless(status.version));
+    let (standing, reason) = (Harmless(status.standing), Harmless(status.reason));
     writeln!(f, "node      {id}, version {version}")?;
     writeln!(f, "standing  {standing}")?;
     if status.is_ready {
@@ -39,7 +45,7 @@ fn print_node<W: fmt::Write>(f: &mut fmt::Formatter<W>, status: &Status<'_>) -> 
 
 fn print_quorum<W: fmt::Write>(f: &mut fmt::Formatter<W>, quorum: &QuorumPart<'_>) -> fmt::Result {
     let (need, members, away) = (quorum.need, quorum.members, quorum.may_be_away);
-    let (beta, gamma) = (quorum.beta, quorum.gamma);
+    let (beta, gamma) = (Harmless(quorum.beta), Harmless(quorum.gamma));
     writeln!(
         f,
         "quorum    {need} of {members} members, {away} may be away, beta {beta}, gamma {gamma}"
@@ -57,7 +63,7 @@ fn print_numbers<W: fmt::Write>(f: &mut fmt::Formatter<W>, numbers: &[Value]) ->
 }
 
 fn print_number<W: fmt::Write>(f: &mut fmt::Formatter<W>, value: &Value) -> fmt::Result {
-    match value.as_u64() {
+    match number_of(value) {
         Some(number) => write!(f, "{number}"),
         None => Ok(()),
     }
@@ -77,7 +83,7 @@ fn print_pending<W: fmt::Write>(
     round: &RoundPart<'_>,
     now: u64,
 ) -> fmt::Result {
-    let phase = round.phase;
+    let phase = Harmless(round.phase);
     let (session, request, others) = (round.session, round.request, round.others);
     let (answers, need) = (round.answers, round.need);
     let seconds = seconds_since(round.since, now);
@@ -112,7 +118,7 @@ fn print_named<W: fmt::Write>(
     named: &Map<String, Value>,
 ) -> fmt::Result {
     for (i, (name, number)) in named.iter().enumerate() {
-        let (name, between) = (name.as_str(), if i > 0 { ", " } else { "" });
+        let (name, between) = (Harmless(name.as_str()), if i > 0 { ", " } else { "" });
         write!(f, "{between}{name} ")?;
         print_number(f, number)?;
     }
@@ -121,7 +127,7 @@ fn print_named<W: fmt::Write>(
 
 fn print_disk<W: fmt::Write>(f: &mut fmt::Formatter<W>, status: &Status<'_>) -> fmt::Result {
     let (disk, syncs) = (&status.disk, &status.syncs);
-    let side = disk.side;
+    let side = Harmless(disk.side);
     let (generation, bytes) = (disk.generation, disk.bytes);
     let (records, events) = (disk.records, disk.events);
     let (count, mean, half) = (syncs.count, syncs.mean_us, syncs.p50_us);
@@ -153,7 +159,7 @@ fn print_peer<W: fmt::Write>(
     let id = peer.id;
     write!(f, "peer      {id}")?;
     match peer.address {
-        Some(address) => write!(f, " at {address}")?,
+        Some(address) => write!(f, " at {}", Harmless(address))?,
         None => write!(f, " without an address")?,
     }
     print_contact(f, peer, now)?;
@@ -174,7 +180,8 @@ fn print_contact<W: fmt::Write>(
         (Some(since), _) => write!(f, ", absent for {} s", seconds_since(since, now)),
         (None, Some(since)) => write!(f, ", connected for {} s", seconds_since(since, now)),
         (None, None) => write!(f, ", not connected"),
-    }
+    }?;
+    write!(f, "{}", if peer.is_silent { ", silent" } else { "" })
 }
 
 fn print_rows<W: fmt::Write>(f: &mut fmt::Formatter<W>, rows: &[Value]) -> fmt::Result {
@@ -186,14 +193,15 @@ fn print_rows<W: fmt::Write>(f: &mut fmt::Formatter<W>, rows: &[Value]) -> fmt::
     Ok(())
 }
 
-// A row. What a terminal could take for a command of its own stands in its text as an escape.
 fn print_row<W: fmt::Write>(f: &mut fmt::Formatter<W>, row: &RowPart<'_>) -> fmt::Result {
     let (node, number, max) = (row.node, row.number, row.max);
-    let (text, flag) = (row.text.escape_debug(), if row.flag { "yes" } else { "no" });
-    write!(
-        f,
-        "row       {node}, number {number}, text \"{text}\", max {max}, flag {flag}, set "
-    )?;
+    let flag = if row.flag { "yes" } else { "no" };
+    write!(f, "row       {node}, number {number}, text ")?;
+    match row.text {
+        RowText::Plain(text) => write!(f, "{}", Quoted(text))?,
+        RowText::Base64(text) => write!(f, "base64 {}", Quoted(text))?,
+    }
+    write!(f, ", max {max}, flag {flag}, set ")?;
     print_numbers(f, row.set)?;
     writeln!(f, "")
 }

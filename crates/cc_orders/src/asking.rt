@@ -1,5 +1,6 @@
 //! What a node is asked that runs.
 
+use crate::running::address_in;
 use crate::word_fault::WordFault;
 use cc_messages::Command;
 use cc_words::{address, command, number, store_of};
@@ -22,6 +23,8 @@ pub struct AskWords<'a> {
     pub form: AnswerForm,
     /// Whether it asks again while the node hasn't joined.
     pub waits: bool,
+    /// Where the node tells its status.
+    pub status: Option<&'a str>,
 }
 
 /// How an answer is printed.
@@ -45,6 +48,8 @@ pub struct AskOrder {
     pub form: AnswerForm,
     /// Whether it asks again while the node hasn't joined.
     pub waits: bool,
+    /// Where the node tells why it isn't ready, which is looked up where no answer came. None where it isn't.
+    pub status: Option<SocketAddr>,
 }
 
 impl AskOrder {
@@ -59,6 +64,7 @@ impl AskOrder {
             timeout,
             form: AnswerForm::Plain,
             waits: false,
+            status: None,
         }
     }
 
@@ -72,6 +78,7 @@ impl AskOrder {
             timeout: seconds(words.timeout).ok_or(WordFault::Timeout)?,
             form: words.form,
             waits: words.waits,
+            status: address_in(words.status, WordFault::Status)?,
         })
     }
 }

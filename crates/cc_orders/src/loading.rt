@@ -1,9 +1,10 @@
 //! A load on nodes that run.
 
+use crate::addresses::addresses;
 use crate::asking::AnswerForm;
 use crate::word_fault::WordFault;
 use cc_messages::Command;
-use cc_words::{address, number, store_of};
+use cc_words::{number, store_of};
 use std::alloc::Global;
 use std::net::SocketAddr;
 
@@ -90,7 +91,7 @@ impl LoadOrder {
             sessions_from: sessions_from.ok_or(WordFault::SessionsFrom)?,
             operation: operation_of(words.collects),
             form: words.form,
-            addresses: addresses_in(alloc, words.addresses)?,
+            addresses: addresses(alloc, words.addresses)?,
         })
     }
 
@@ -123,16 +124,4 @@ fn number_in(word: Option<&str>, least: u64, most: u64, otherwise: u64) -> Optio
         },
         None => Some(otherwise),
     }
-}
-
-fn addresses_in(alloc: Global, list: &str) -> Result<Vec<SocketAddr>, WordFault> {
-    let mut addresses = Vec::new(alloc);
-    for word in list.split(',') {
-        let address = address(word).ok_or(WordFault::Addresses)?;
-        if addresses.contains(&address) {
-            return Err(WordFault::AddressTwice);
-        }
-        addresses.push(address).or(Err(WordFault::NoMemory))?;
-    }
-    Ok(addresses)
 }

@@ -1,9 +1,11 @@
 //! What the operator asks of a node that runs.
 
+use crate::addresses::addresses;
 use crate::asking::AnswerForm;
 use crate::word_fault::WordFault;
 use cc_views::NodeId;
-use cc_words::{address, small_number};
+use cc_words::{Peer, address, peers_in_lines, small_number};
+use std::alloc::Global;
 use std::net::SocketAddr;
 
 /// The node at an address is to leave.
@@ -20,20 +22,99 @@ impl LeaveOrder {
     }
 }
 
-/// The node at an address is told that another is dead for good.
-#[derive(Clone, Copy, PartialEq, Eq)]
+/// The words of `retire`, as they are given. None for one that isn't.
+#[derive(Clone, Copy)]
+pub struct RetireWords<'a> {
+    /// Where the nodes listen that are told, or the id where a file names them.
+    pub first: &'a str,
+    /// The id, where no file names the nodes that are told.
+    pub second: Option<&'a str>,
+    /// The path of a file whose lines are the nodes that are told.
+    pub peers_file: Option<&'a str>,
+    pub alive: bool,
+}
+
+/// Nodes are told that another is dead for good.
+#[derive(Drop, PartialEq, Eq)]
 pub struct RetireOrder {
-    pub address: SocketAddr,
+    /// Where these listen, one at least, and no address twice.
+    pub addresses: Vec<SocketAddr>,
     pub node: NodeId,
+    /// Whether it is retired though it was heard a moment ago.
+    pub even_alive: bool,
 }
 
 impl RetireOrder {
-    /// What the two words behind `retire` ask for.
-    pub fn parse(word: &str, node: &str) -> Result<Self, WordFault> {
-        let address = address(word).ok_or(WordFault::Address)?;
-        let node = node_id(node).ok_or(WordFault::Node)?;
-        Ok(RetireOrder { address, node })
+    /// What the words behind `retire` ask for. `lines` is the text of the file behind `--peers-file`: each node in it is
+    /// told, but the one that is retired.
+    pub fn parse(
+        alloc: Global,
+        words: &RetireWords<'_>,
+        lines: Option<&str>,
+    ) -> Result<Self, WordFault> {
+        match (words.second, lines) {
+            (Some(id), None) => Self::of_list(alloc, words.first, id, words.alive),
+            (None, Some(lines)) => Self::of_lines(alloc, lines, words.first, words.alive),
+            _ => Err(WordFault::Retirement),
+        }
     }
+
+    fn of_list(alloc: Global, list: &str, id: &str, even_alive: bool) -> Result<Self, WordFault> {
+        let addresses = match list.contains(',') {
+            true => addresses(alloc, list)?,
+            false => one_address(alloc, list)?,
+        };
+        let Some(node) = node_id(id) else {
+            drop(addresses);
+            return Err(WordFault::Node);
+        };
+        Ok(RetireOrder {
+            addresses,
+            node,
+            even_alive,
+        })
+    }
+
+    fn of_lines(alloc: Global, lines: &str, id: &str, even_alive: bool) -> Result<Self, WordFault> {
+        let node = node_id(id).ok_or(WordFault::Node)?;
+        let peers = peers_in_lines(alloc, lines)?;
+        let told = addresses_but(alloc, &peers, node);
+        drop(peers);
+        Ok(RetireOrder {
+            addresses: told?,
+            node,
+            even_alive,
+        })
+    }
+}
+
+fn one_address(alloc: Global, word: &str) -> Result<Vec<SocketAddr>, WordFault> {
+    let address = address(word).ok_or(WordFault::Address)?;
+    let mut addresses = Vec::new(alloc);
+    addresses.push(address).or(Err(WordFault::NoMemory))?;
+    Ok(addresses)
+}
+
+// Where the peers listen that aren't this node.
+fn addresses_but(
+    alloc: Global,
+    peers: &[Peer],
+    node: NodeId,
+) -> Result<Vec<SocketAddr>, WordFault> {
+    let mut addresses = Vec::new(alloc);
+    for peer in peers {
+        if peer.id == node {
+            continue;
+        }
+        if addresses.contains(&peer.address) {
+            return Err(WordFault::LineAddressTwice);
+        }
+        addresses.push(peer.address).or(Err(WordFault::NoMemory))?;
+    }
+    if addresses.is_empty() {
+        return Err(WordFault::NobodyElse);
+    }
+    Ok(addresses)
 }
 
 /// A node is asked what it tells of itself.

@@ -96,8 +96,11 @@ impl RunOrder {
     }
 }
 
-// The address that a word is, if one is given, or this fault.
-fn address_in(word: Option<&str>, fault: WordFault) -> Result<Option<SocketAddr>, WordFault> {
+/// The address that a word is, if one is given, or this fault.
+pub(crate) fn address_in(
+    word: Option<&str>,
+    fault: WordFault,
+) -> Result<Option<SocketAddr>, WordFault> {
     match word {
         Some(word) => match address(word) {
             Some(address) => Ok(Some(address)),

@@ -65,6 +65,14 @@ pub enum WordFault {
     SessionsFrom,
     #[error("ID isn't the id of a node, such as 3")]
     Node,
+    #[error("retire takes ADDRS and ID, or --peers-file FILE and ID")]
+    Retirement,
+    /// In the file behind `--peers-file`.
+    #[error("names an address twice")]
+    LineAddressTwice,
+    /// There.
+    #[error("names no node but the one to retire")]
+    NobodyElse,
     /// A growth was refused.
     #[error("out of memory")]
     NoMemory,

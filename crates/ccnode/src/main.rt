@@ -91,7 +91,7 @@ fn obey(rt: &HostRuntime, order: Order<'_>) -> anyhow::Result<ExitCode> {
         Order::Format { folder, words } => format(rt, folder, &words),
         Order::Ask(words) => ask(rt, &words),
         Order::Leave { address } => leave(rt, address),
-        Order::Retire { address, node } => retire(rt, address, node),
+        Order::Retire(words) => retire(rt, &words),
         Order::Status {
             address,
             form,

@@ -2,13 +2,17 @@
 
 use crate::{BAD_COMMAND_LINE, print_word_fault};
 use cc_client::{Told, ask_node, leave_node, retire_node};
-use cc_look::look_at;
+use cc_look::{look_at, reason_at};
 use cc_orders::{
-    AnswerForm, AskOrder, AskWords, CommandFault, LeaveOrder, RetireOrder, StatusOrder, WordFault,
+    AnswerForm, AskOrder, AskWords, CommandFault, LeaveOrder, RetireOrder, RetireWords,
+    StatusOrder, WordFault,
 };
+use cc_texts::Harmless;
+use std::io::ErrorKind;
+use std::net::SocketAddr;
 use std::process::ExitCode;
-use std::thread;
 use std::time::Duration;
+use std::{fs, io, thread};
 
 /// Has a command done: the status of that.
 pub fn ask(rt: &HostRuntime, words: &AskWords<'_>) -> anyhow::Result<ExitCode> {
@@ -19,7 +23,21 @@ pub fn ask(rt: &HostRuntime, words: &AskWords<'_>) -> anyhow::Result<ExitCode> {
     };
     let mut output = std::io::writer(rt);
     let told = ask_node(rt, rt.alloc(), &order, &mut output)?;
-    end(rt, told)
+    match (told.silence, order.status) {
+        (Some(_), Some(page)) => end_silent(rt, told, &page),
+        _ => end(rt, told),
+    }
+}
+
+// Where no answer came, and the node tells at its status why it isn't ready, that is told on standard error.
+fn end_silent(rt: &HostRuntime, told: Told, page: &SocketAddr) -> anyhow::Result<ExitCode> {
+    match reason_at(rt, rt.alloc(), page) {
+        Some(reason) => {
+            eprintln!(rt; "ccnode: {}", Harmless(reason.as_str()))?;
+            Ok(ExitCode::from(told.status))
+        }
+        None => end(rt, told),
+    }
 }
 
 fn print_command_fault(rt: &HostRuntime, words: &AskWords<'_>) -> anyhow::Result<ExitCode> {
@@ -39,15 +57,63 @@ pub fn leave(rt: &HostRuntime, address: &str) -> anyhow::Result<ExitCode> {
     end(rt, told)
 }
 
-/// Tells a node that another is dead: the status of that.
-pub fn retire(rt: &HostRuntime, address: &str, node: &str) -> anyhow::Result<ExitCode> {
-    let order = match RetireOrder::parse(address, node) {
-        Ok(order) => order,
-        Err(fault) => return print_word_fault(rt, fault),
+/// Tells nodes that another is dead, one after the other: 0 where all took it, else 1.
+pub fn retire(rt: &HostRuntime, words: &RetireWords<'_>) -> anyhow::Result<ExitCode> {
+    match words.peers_file {
+        Some(file) => match fs::read_to_string(rt, file) {
+            Ok(lines) => retire_with(rt, words, Some((file, lines.as_str()))),
+            Err(error) => {
+                eprintln!(rt; "ccnode: {file}: {error}")?;
+                Ok(ExitCode::from(BAD_COMMAND_LINE))
+            }
+        },
+        None => retire_with(rt, words, None),
+    }
+}
+
+// The same with the path and the text of a file of peers, if there is one.
+fn retire_with(
+    rt: &HostRuntime,
+    words: &RetireWords<'_>,
+    file: Option<(&str, &str)>,
+) -> anyhow::Result<ExitCode> {
+    let lines = match file {
+        Some((_, lines)) => Some(lines),
+        None => None,
     };
+    match RetireOrder::parse(rt.alloc(), words, lines) {
+        Ok(order) => retire_at_all(rt, &order),
+        Err(fault) => print_retire_fault(rt, fault, file),
+    }
+}
+
+// A fault of a file of peers is told with its path.
+fn print_retire_fault(
+    rt: &HostRuntime,
+    fault: WordFault,
+    file: Option<(&str, &str)>,
+) -> anyhow::Result<ExitCode> {
+    match (fault, file) {
+        (
+            WordFault::Line(_) | WordFault::LineAddressTwice | WordFault::NobodyElse,
+            Some((path, _)),
+        ) => {
+            eprintln!(rt; "ccnode: {path} {fault}")?;
+            Ok(ExitCode::from(BAD_COMMAND_LINE))
+        }
+        _ => print_word_fault(rt, fault),
+    }
+}
+
+fn retire_at_all(rt: &HostRuntime, order: &RetireOrder) -> anyhow::Result<ExitCode> {
     let mut output = std::io::writer(rt);
-    let told = retire_node(rt, rt.alloc(), &order, &mut output)?;
-    end(rt, told)
+    let mut status = 0;
+    for address in &order.addresses {
+        let told = retire_node(rt, rt.alloc(), order, address, &mut output)?;
+        print_told(rt, told)?;
+        status = told.status.max(status);
+    }
+    Ok(ExitCode::from(status))
 }
 
 /// Prints what a node tells of itself, once or once a second: the status of the last time.
@@ -61,18 +127,27 @@ pub fn status(
         Ok(order) => order,
         Err(fault) => return print_word_fault(rt, fault),
     };
-    let mut status = look(rt, &order)?;
+    match look_for_long(rt, &order) {
+        Ok(status) => Ok(ExitCode::from(status)),
+        // Who reads what is printed has seen enough.
+        Err(error) if error.kind() == ErrorKind::BrokenPipe => Ok(ExitCode::SUCCESS),
+        Err(error) => Err(error.into()),
+    }
+}
+
+fn look_for_long(rt: &HostRuntime, order: &StatusOrder) -> io::Result<u8> {
+    let mut status = look(rt, order)?;
     if order.watches {
         for _ in 0..u64::MAX {
             thread::sleep(rt, Duration::from_secs(1));
-            status = look(rt, &order)?;
+            status = look(rt, order)?;
         }
     }
-    Ok(ExitCode::from(status))
+    Ok(status)
 }
 
 // Looks at a node once. Where nothing is known of it, why is told on standard error.
-fn look(rt: &HostRuntime, order: &StatusOrder) -> anyhow::Result<u8> {
+fn look(rt: &HostRuntime, order: &StatusOrder) -> io::Result<u8> {
     let mut output = std::io::writer(rt);
     let look = look_at(rt, rt.alloc(), order, &mut output)?;
     if let Some(fault) = look.fault {
@@ -84,10 +159,18 @@ fn look(rt: &HostRuntime, order: &StatusOrder) -> anyhow::Result<u8> {
     Ok(look.status)
 }
 
-/// The status that a client ends with. Where no answer came, why is told on standard error.
+/// The status that a client ends with. Where no answer came, why is told on standard error, and so is what is to be done.
 pub fn end<R: Eprint>(rt: &R, told: Told) -> anyhow::Result<ExitCode> {
+    print_told(rt, told)?;
+    Ok(ExitCode::from(told.status))
+}
+
+fn print_told<R: Eprint>(rt: &R, told: Told) -> anyhow::Result<()> {
     if let Some(silence) = told.silence {
         eprintln!(rt; "ccnode: {silence}")?;
     }
-    Ok(ExitCode::from(told.status))
+    if let Some(advice) = told.advice {
+        eprintln!(rt; "ccnode: {advice}")?;
+    }
+    Ok(())
 }

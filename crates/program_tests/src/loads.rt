@@ -65,12 +65,12 @@ ended     1 clients early, refused 9 TooManySessions
 ";
 
 const AS_JSON: &str =
-    r#"{"operation":"store","clients":4,"answered":6,"elapsed_us":2000000,"per_second":3,"p50_us":900,"p99_us":5250,"worst_us":5250,"buckets":[{"up_to_us":1024,"count":4},{"up_to_us":2048,"count":1},{"up_to_us":4096,"count":0},{"up_to_us":8192,"count":1}],"again":17,"lost":2,"ended":1,"refused":"9 TooManySessions"}"#;
+    r#"{"operation":"store","clients":4,"answered":6,"elapsed_us":2000000,"per_second":3,"p50_us":900,"p99_us":5250,"worst_us":5250,"buckets":[{"up_to_us":1024,"count":4},{"up_to_us":2048,"count":1},{"up_to_us":4096,"count":0},{"up_to_us":8192,"count":1}],"again":17,"lost":2,"ended":1,"refused":"9 TooManySessions","in_use":0}"#;
 
 const NOTHING_ANSWERED: &str = "answered  0 collects in 2.000 s, 0 a second, 4 clients\n";
 
 const NOTHING_AS_JSON: &str =
-    r#"{"operation":"collect","clients":4,"answered":0,"elapsed_us":2000000,"per_second":0,"p50_us":0,"p99_us":0,"worst_us":0,"buckets":[],"again":0,"lost":0,"ended":0,"refused":null}"#;
+    r#"{"operation":"collect","clients":4,"answered":0,"elapsed_us":2000000,"per_second":0,"p50_us":0,"p99_us":0,"worst_us":0,"buckets":[],"again":0,"lost":0,"ended":0,"refused":null,"in_use":0}"#;
 
 // What two clients counted.
 fn add_both<R: Abort + AllocGlobal>(rt: &R, tally: &mut Tally) {

@@ -31,6 +31,7 @@ fn is_told<'a, R: Abort + AllocGlobal>(
         timeout: None,
         form: AnswerForm::Plain,
         waits: false,
+        status: None,
     };
     let told = told(rt, &words);
     told.as_str() == wanted && are_no_command(&words)

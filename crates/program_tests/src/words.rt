@@ -4,8 +4,8 @@ use cc_changes::Fraction;
 use cc_commands::FormatOrder;
 use cc_messages::Command;
 use cc_orders::{
-    AnswerForm, AskOrder, AskWords, FormatWords, LeaveOrder, LogLevel, RetireOrder, RunOrder,
-    RunWords, StatusOrder, WordFault,
+    AnswerForm, AskOrder, AskWords, FormatWords, LeaveOrder, LogLevel, RetireOrder, RetireWords,
+    RunOrder, RunWords, StatusOrder, WordFault,
 };
 use cc_views::NodeId;
 use cc_words::{Peer, fraction, list, number, small_number};
@@ -302,6 +302,7 @@ fn collect() -> AskWords<'static> {
         timeout: None,
         form: AnswerForm::Plain,
         waits: false,
+        status: None,
     }
 }
 
@@ -313,6 +314,7 @@ fn ask_with<'a>(words: &AskWords<'a>, place: WordFault, text: &'a str) -> AskWor
         WordFault::Session => words.session = text,
         WordFault::Command => words.command = text,
         WordFault::Request => words.request = Some(text),
+        WordFault::Status => words.status = Some(text),
         _ => words.timeout = Some(text),
     }
     words
@@ -328,6 +330,7 @@ fn collect_within(seconds: u64) -> AskOrder {
         timeout: seconds,
         form: AnswerForm::Plain,
         waits: false,
+        status: None,
     }
 }
 
@@ -336,6 +339,16 @@ fn ask_waits_ten_seconds_by_itself(rt: HostRuntime) {
     assert!(rt; AskOrder::parse(&collect()) == Ok(collect_within(10)));
     let longer = ask_with(&collect(), WordFault::Timeout, "60");
     assert!(rt; AskOrder::parse(&longer) == Ok(collect_within(60)));
+}
+
+#[test]
+fn ask_may_look_at_a_status(rt: HostRuntime) {
+    let order = AskOrder::parse(&ask_with(&collect(), WordFault::Status, "127.0.0.1:8001"));
+    let wanted = AskOrder {
+        status: Some(local(8001)),
+        ..AskOrder::new(local(7001), 7, Command::Collect, 10)
+    };
+    assert!(rt; order == Ok(wanted));
 }
 
 #[test]
@@ -354,13 +367,14 @@ pub fn are_no_command(words: &AskWords<'_>) -> bool {
 }
 
 // A bad text, and the fault that names its place.
-const NO_ASKS: [(WordFault, &str); 6] = [
+const NO_ASKS: [(WordFault, &str); 7] = [
     (WordFault::Address, "7001"),
     (WordFault::Session, "07"),
     (WordFault::Command, "collects"),
     (WordFault::Request, "0"),
     (WordFault::Request, "012"),
     (WordFault::Timeout, "1.5"),
+    (WordFault::Status, "8001"),
 ];
 
 #[test]
@@ -378,18 +392,106 @@ fn leaves<R: Abort>(rt: &R) -> bool {
     order.address == local(7001)
 }
 
-// Whether it names node 3.
-fn retires<R: Abort>(rt: &R) -> bool {
-    let order = RetireOrder::parse(ADDRESS, "3").expect(rt, "an order");
-    order.address == local(7001) && order.node.number() == 3
+// The words of `retire`, with the text of a file of peers where one is named.
+#[derive(Clone, Copy)]
+struct Retiring<'a> {
+    first: &'a str,
+    second: Option<&'a str>,
+    lines: Option<&'a str>,
+}
+
+fn retirement<R: AllocGlobal>(rt: &R, told: Retiring<'_>) -> Result<RetireOrder, WordFault> {
+    let Retiring {
+        first,
+        second,
+        lines,
+    } = told;
+    let words = RetireWords {
+        first,
+        second,
+        peers_file: None,
+        alive: false,
+    };
+    RetireOrder::parse(rt.alloc(), &words, lines)
+}
+
+// Whether node 3 is retired, and nodes at these ports are told.
+fn retires<R: Abort + AllocGlobal>(rt: &R, told: Retiring<'_>, ports: &[u16]) -> bool {
+    let order = retirement(rt, told).expect(rt, "an order");
+    let mut are_told = order.addresses.len() == ports.len();
+    for (address, port) in order.addresses.iter().zip(ports) {
+        are_told = are_told && *address == local(*port);
+    }
+    let is_third = order.node.number() == 3;
+    drop(order);
+    are_told && is_third
+}
+
+const LIST: &str = "127.0.0.1:7001,127.0.0.1:7002";
+
+const LINES: &str = "# all three\n1=127.0.0.1:7001\n2=127.0.0.1:7002\n3=127.0.0.1:7003\n";
+
+#[test]
+fn one_node_or_several_are_told(rt: HostRuntime) {
+    let one = Retiring {
+        first: ADDRESS,
+        second: Some("3"),
+        lines: None,
+    };
+    let two = Retiring {
+        first: LIST,
+        second: Some("3"),
+        lines: None,
+    };
+    let of_file = Retiring {
+        first: "3",
+        second: None,
+        lines: Some(LINES),
+    };
+    assert!(rt; retires(&rt, one, &[7001]));
+    assert!(rt; retires(&rt, two, &[7001, 7002]));
+    assert!(rt; retires(&rt, of_file, &[7001, 7002]));
+}
+
+// Words that retire nobody, the text of a file with them, and why.
+const NO_RETIREMENTS: [(&str, Option<&str>, Option<&str>, WordFault); 9] = [
+    (ADDRESS, Some("0"), None, WordFault::Node),
+    ("7001", Some("3"), None, WordFault::Address),
+    ("127.0.0.1:7001,7002", Some("3"), None, WordFault::Addresses),
+    (
+        "127.0.0.1:7001,127.0.0.1:7001",
+        Some("3"),
+        None,
+        WordFault::AddressTwice,
+    ),
+    (ADDRESS, None, None, WordFault::Retirement),
+    (ADDRESS, Some("3"), Some(LINES), WordFault::Retirement),
+    ("3", None, Some("3=127.0.0.1:7003"), WordFault::NobodyElse),
+    (
+        "3",
+        None,
+        Some("1=127.0.0.1:7001\n2=127.0.0.1:7001"),
+        WordFault::LineAddressTwice,
+    ),
+    ("3", None, Some("1:127.0.0.1:7001"), WordFault::Line(1)),
+];
+
+#[test]
+fn each_word_of_retire_is_checked(rt: HostRuntime) {
+    for &(first, second, lines, fault) in &NO_RETIREMENTS {
+        let told = Retiring {
+            first,
+            second,
+            lines,
+        };
+        assert!(rt; retirement(&rt, told).err() == Some(fault), "{fault}");
+    }
 }
 
 #[test]
 fn the_operator_names_a_node(rt: HostRuntime) {
     assert!(rt; leaves(&rt));
     assert!(rt; LeaveOrder::parse("").err() == Some(WordFault::Address));
-    assert!(rt; retires(&rt));
-    assert!(rt; RetireOrder::parse(ADDRESS, "0").err() == Some(WordFault::Node));
     let refused = StatusOrder::parse("8001", AnswerForm::Plain, false).err();
     assert!(rt; refused == Some(WordFault::Address));
 }

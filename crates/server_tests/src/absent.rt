@@ -1,13 +1,11 @@
 //! Two of three members go on without the third, which is started late or never.
 
-use crate::asking::{DONE, check_asked, is_asked, is_retired, order};
+use crate::asking::{DONE, check_asked, is_asked, is_retired, order, retirement};
 use crate::nodes::{
     Place, Places, format_member_of, free_place, run, set_up_of, while_one_runs, while_two_run,
 };
 use cc_channels::Stop;
 use cc_intake::NoHooks;
-use cc_orders::RetireOrder;
-use cc_views::NodeId;
 use std::alloc::Global;
 use std::net::{Net, SocketAddr, TcpListener, TcpStream};
 use std::process::Abort;
@@ -76,18 +74,16 @@ where
     R: Abort + Net<Listener = TcpListener, Stream = TcpStream> + Threads + Wait + Clock + Sync,
 {
     let store = order(rt, one, &["store", "a"], 20);
-    let retire = RetireOrder {
-        address: one,
-        node: NodeId::new(3).expect(rt, "an id"),
-    };
+    let retire = retirement(rt, one, 3, false);
     let (is_stored, is_done) = thread::join(
         rt,
         || is_asked(rt, alloc, &store, DONE, "Stored\n"),
         || {
             thread::sleep(rt, Duration::from_secs(1));
-            is_retired(rt, alloc, &retire, "retired 3\n")
+            is_retired(rt, alloc, &retire, DONE, "retired 3\n")
         },
     );
+    drop(retire);
     assert!(rt; is_stored, "Stored");
     assert!(rt; is_done, "retired 3");
 }

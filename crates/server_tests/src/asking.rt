@@ -27,15 +27,16 @@ const ASKED: [(&[&str], &str); 9] = [
     (&["readset"], "Set [5]\n"),
 ];
 
-// The same as JSON, and with the number of a request: what was done under it, and what is no longer.
+// The same as JSON, and with the number of a request: what was done under it, and what is no longer. Each of the thirteen asks
+// without one took two numbers, one for its reading.
 const ASKED_AS_JSON: [(&[&str], Option<u64>, Told, &str); 7] = [
     (
         &["collect"],
         None,
         DONE,
-        "{\"answer\":\"Seen\",\"view\":[{\"node\":1,\"number\":5,\"text\":\"a=b\",\"max\":9,\"flag\":true,\"set\":[5]}]}\n",
+        "{\"answer\":\"Seen\",\"view\":[{\"node\":1,\"number\":\"5\",\"text\":\"a=b\",\"max\":\"9\",\"flag\":true,\"set\":[5]}]}\n",
     ),
-    (&["readmax"], None, DONE, "{\"answer\":\"Max\",\"max\":9}\n"),
+    (&["readmax"], None, DONE, "{\"answer\":\"Max\",\"max\":\"9\"}\n"),
     (
         &["readflag"],
         None,
@@ -48,13 +49,13 @@ const ASKED_AS_JSON: [(&[&str], Option<u64>, Told, &str); 7] = [
         DONE,
         "{\"answer\":\"Set\",\"set\":[5]}\n",
     ),
-    (&["add", "6"], Some(14), DONE, "{\"answer\":\"Stored\"}\n"),
-    (&["add", "6"], Some(14), DONE, "{\"answer\":\"Stored\"}\n"),
+    (&["add", "6"], Some(27), DONE, "{\"answer\":\"Stored\"}\n"),
+    (&["add", "6"], Some(27), DONE, "{\"answer\":\"Stored\"}\n"),
     (
         &["add", "7"],
-        Some(16),
+        Some(29),
         REFUSED,
-        "{\"refused\":\"Skip\",\"number\":12,\"carries\":14}\n",
+        "{\"refused\":\"Skip\",\"number\":12,\"carries\":\"27\"}\n",
     ),
 ];
 
@@ -62,11 +63,13 @@ const ASKED_AS_JSON: [(&[&str], Option<u64>, Told, &str); 7] = [
 pub(crate) const DONE: Told = Told {
     status: 0,
     silence: None,
+    advice: None,
 };
 
 const REFUSED: Told = Told {
     status: 1,
     silence: None,
+    advice: None,
 };
 
 // Whether a client ended so, and printed this.
@@ -87,16 +90,34 @@ pub(crate) fn is_asked<R: Net<Stream = TcpStream> + Clock>(
     is_told(ended, &output, told, wanted)
 }
 
-/// Whether the node there can be told that another is dead, and the client prints this.
+/// Tells the first node of an order that another is dead, and whether the client ends so, and prints this.
 pub(crate) fn is_retired<R: Net<Stream = TcpStream> + Clock>(
     rt: &R,
     alloc: Global,
     order: &RetireOrder,
+    told: Told,
     wanted: &str,
 ) -> bool {
     let mut output = Vec::new(alloc);
-    let ended = retire_node(rt, alloc, order, &mut output);
-    is_told(ended, &output, DONE, wanted)
+    let Some(address) = order.addresses.first() else {
+        return false;
+    };
+    let ended = retire_node(rt, alloc, order, address, &mut output);
+    is_told(ended, &output, told, wanted)
+}
+
+/// The node there is told that this one is dead.
+pub(crate) fn retirement<R: Abort + AllocGlobal>(
+    rt: &R,
+    address: SocketAddr,
+    node: u32,
+    even_alive: bool,
+) -> RetireOrder {
+    RetireOrder {
+        addresses: vec![in rt.alloc(); address].expect(rt, "room"),
+        node: NodeId::new(node).expect(rt, "an id"),
+        even_alive,
+    }
 }
 
 fn is_left<R: Net<Stream = TcpStream> + Clock>(
@@ -153,19 +174,21 @@ fn ask_for_json<R: Abort + AllocGlobal + Net<Stream = TcpStream> + Clock>(rt: &R
 
 // The operator at node 1, twice with each order: what was done before is told once more.
 fn operate<R: Abort + AllocGlobal + Net<Stream = TcpStream> + Clock>(rt: &R, one: SocketAddr) {
-    let order = RetireOrder {
-        address: one,
-        node: NodeId::new(2).expect(rt, "an id"),
-    };
+    let order = retirement(rt, one, 2, true);
     for _ in 0..2 {
         assert!(rt;
-            is_retired(rt, rt.alloc(), &order, "retired 2\n"),
+            is_retired(rt, rt.alloc(), &order, DONE, "retired 2\n"),
             "retired 2"
         );
     }
     for _ in 0..2 {
         assert!(rt; is_left(rt, rt.alloc(), one, DONE, "left\n"), "left");
     }
+    assert!(rt;
+        is_retired(rt, rt.alloc(), &order, REFUSED, "refused 1 Left\n"),
+        "a node that has left retires nobody"
+    );
+    drop(order);
 }
 
 // Clients and the operator at node 1. Who has left serves no client.
@@ -208,6 +231,7 @@ fn check_no_answer<R: Abort + AllocGlobal + Net<Stream = TcpStream> + Clock>(
     let closed = Told {
         status: 1,
         silence: Some(Silence::Closed(nobody)),
+        advice: None,
     };
     let plain = order(rt, nobody, &["collect"], 1);
     let json = AskOrder {

@@ -1,0 +1,19 @@
+//! A list of addresses.
+
+use crate::word_fault::WordFault;
+use cc_words::address;
+use std::alloc::Global;
+use std::net::SocketAddr;
+
+/// The addresses, one at least and none twice, that a word is, as `127.0.0.1:7001,127.0.0.1:7002`.
+pub fn addresses(alloc: Global, list: &str) -> Result<Vec<SocketAddr>, WordFault> {
+    let mut addresses = Vec::new(alloc);
+    for word in list.split(',') {
+        let address = address(word).ok_or(WordFault::Addresses)?;
+        if addresses.contains(&address) {
+            return Err(WordFault::AddressTwice);
+        }
+        addresses.push(address).or(Err(WordFault::NoMemory))?;
+    }
+    Ok(addresses)
+}
