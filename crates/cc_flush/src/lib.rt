@@ -10,6 +10,7 @@ mod laws;
 mod moving;
 mod opened;
 mod opening;
+mod reopening;
 mod standing;
 
 pub use actions::Action;
@@ -18,3 +19,4 @@ pub use flusher::{CheckpointFault, Failed, Flusher};
 pub use formatting::{FormatFault, format};
 pub use laws::{good_for_more, good_parts, node_or_fault, one_node, rests_with_all, shut_side};
 pub use opened::Opened;
+pub use reopening::open_anew;

@@ -18,7 +18,6 @@ mod notes;
 mod of_life;
 mod outlet;
 mod own;
-mod reopening;
 mod replies;
 mod run;
 mod run_fault;
@@ -29,6 +28,5 @@ mod timed_input;
 
 pub use config::Config;
 pub use machine::{Machine, ReadText};
-pub use reopening::open_anew;
 pub use run::{run_node, run_on};
 pub use run_fault::RunFault;

@@ -11,13 +11,12 @@ use crate::measured::Measured;
 use crate::notes::{Notice, give_notice};
 use crate::of_life::OfLife;
 use crate::outlet::ServerOutlet;
-use crate::reopening::open_anew;
 use crate::run_fault::RunFault;
 use crate::shared::{Inlets, Shared};
 use crate::threads::{Listeners, live};
 use cc_channels::{Admission, Durable, Stop, millis};
 use cc_files::FileSite;
-use cc_flush::{Failed, Flusher};
+use cc_flush::{Back, Failed, Flusher, open_anew};
 use cc_frames::Peer;
 use cc_intake::{Ends, Finished, Hooked, Hooks, Lane, Life, Share, finish, lane, start};
 use cc_messages::Event;
@@ -148,10 +147,11 @@ where
     };
     match open_anew(run.alloc, hooked) {
         Ok((engine, core)) => run_opened(run, listener, inlets, engine, core),
-        Err(fault) => {
+        Err(Back { site, fault }) => {
+            drop(site);
             drop(listener);
             drop(inlets);
-            Err(fault)
+            Err(RunFault::Open(fault))
         }
     }
 }

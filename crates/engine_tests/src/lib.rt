@@ -27,6 +27,8 @@ mod puts;
 #[cfg(test)]
 mod refusals;
 #[cfg(test)]
+mod reopenings;
+#[cfg(test)]
 mod shared_rounds;
 #[cfg(test)]
 mod sites;

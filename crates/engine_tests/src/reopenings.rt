@@ -1,0 +1,340 @@
+//! A sync that fails once: reads show what was to be written, and a power cut leaves what was there before.
+
+use crate::parts::{Part, batch_of};
+use crate::sites::MEMBER;
+use cc_checkpoint::OpenFault;
+use cc_flush::{Back, CheckpointFault, Flusher, format, open_anew};
+use cc_messages::{Answer, Message};
+use cc_site::{Call, DeviceFault, Side, Site};
+use cc_views::NodeId;
+use std::alloc::Global;
+use std::process::Abort;
+
+// How many bytes the disk writes at once.
+const PAGE: usize = 16;
+
+// What a file shows, what the disk has of it, and which pages are still to be written.
+#[derive(Drop)]
+struct Pages {
+    shown: Vec<u8>,
+    kept: Vec<u8>,
+    dirty: Vec<bool>,
+}
+
+impl Pages {
+    fn new(alloc: Global) -> Self {
+        Pages {
+            shown: Vec::new(alloc),
+            kept: Vec::new(alloc),
+            dirty: Vec::new(alloc),
+        }
+    }
+
+    // Marks the page of a place.
+    fn mark(&mut self, place: usize) -> bool {
+        let page = place / PAGE;
+        for _ in self.dirty.len()..=page {
+            if self.dirty.push(false).is_err() {
+                return false;
+            }
+        }
+        if let Some(mark) = self.dirty.get_mut(page) {
+            *mark = true;
+        }
+        true
+    }
+
+    // Puts a byte at a place, or behind the last one. Whether there was memory.
+    fn put(&mut self, place: usize, byte: u8) -> bool {
+        match self.shown.get_mut(place) {
+            Some(old) => *old = byte,
+            None => {
+                if self.shown.push(byte).is_err() {
+                    return false;
+                }
+            }
+        }
+        self.mark(place)
+    }
+
+    // The disk gets each page that is still to be written. Whether there was memory.
+    fn keep(&mut self) -> bool {
+        self.kept.truncate(self.shown.len());
+        for (place, byte) in self.shown.iter().enumerate() {
+            let is_dirty = self.dirty.get(place / PAGE) == Some(&true);
+            match self.kept.get_mut(place) {
+                Some(old) if is_dirty => *old = *byte,
+                Some(_) => {}
+                None => {
+                    if self.kept.push(if is_dirty { *byte } else { 0 }).is_err() {
+                        return false;
+                    }
+                }
+            }
+        }
+        true
+    }
+
+    // No page is to be written any more.
+    fn forget(&mut self) {
+        self.dirty.clear();
+    }
+
+    // Reads show what the disk has. Whether there was memory.
+    fn lose_power(&mut self) -> bool {
+        self.dirty.clear();
+        self.shown.clear();
+        self.shown.extend_from_slice(self.kept.as_slice()).is_ok()
+    }
+}
+
+// Two such files. The sync with one number fails, and those behind another one reach no disk any more.
+#[derive(Drop)]
+struct ForgetfulSite {
+    a: Pages,
+    b: Pages,
+    syncs: u64,
+    fails_at: u64,
+    power_until: u64,
+    failures: u64,
+}
+
+impl ForgetfulSite {
+    fn new(alloc: Global) -> Self {
+        ForgetfulSite {
+            a: Pages::new(alloc),
+            b: Pages::new(alloc),
+            syncs: 0,
+            fails_at: 0,
+            power_until: u64::MAX,
+            failures: 0,
+        }
+    }
+
+    fn pages(&mut self, side: Side) -> &mut Pages {
+        match side {
+            Side::A => &mut self.a,
+            Side::B => &mut self.b,
+        }
+    }
+
+    fn told(&mut self, is_done: bool, side: Side, call: Call) -> Result<(), DeviceFault> {
+        if is_done {
+            return Ok(());
+        }
+        self.failures = self.failures.wrapping_add(1);
+        Err(DeviceFault { side, call })
+    }
+
+    // The site as the machine finds it when its power is back.
+    fn lose_power<R: Abort>(&mut self, rt: &R) {
+        let is_done = self.a.lose_power() && self.b.lose_power();
+        self.power_until = u64::MAX;
+        assert!(rt; is_done, "there is memory");
+    }
+}
+
+impl Site for ForgetfulSite {
+    ghost use Rattle.std.specs.Prelude.{[], false, None};
+
+    ghost honest = { λ _. ⊥ };
+
+    ghost tells = { λ _. ⊥ };
+
+    ghost state = { λ _ _. record { bytes = []; touched = λ _. false; shifted = None } };
+
+    ghost sent = { λ _. [] };
+
+    ghost moment = { λ _. 0 };
+
+    ghost left_since = { λ _ _ _ _. ⊥ };
+
+    ghost failures = { λ f. f.failures };
+
+    ghost may_read = { λ _ honest _. absurd honest };
+
+    ghost are_bytes = { λ _ honest _ _. absurd honest };
+
+    ghost counts_now = { λ _ honest _ _ _ _ _. absurd honest };
+
+    ghost only_now = { λ _ honest _ _ _. absurd honest };
+
+    fn length(&mut self, side: Side) -> Result<u64, DeviceFault> {
+        Ok(self.pages(side).shown.len() as u64)
+    }
+
+    fn read(&mut self, side: Side, place: u64, into: &mut [u8]) -> Result<(), DeviceFault> {
+        let pages = self.pages(side);
+        for (offset, byte) in into.iter_mut().enumerate() {
+            let place = (place as usize).saturating_add(offset);
+            *byte = pages.shown.get(place).copied().unwrap_or(0);
+        }
+        Ok(())
+    }
+
+    fn write_at(&mut self, side: Side, place: u64, bytes: &[u8]) -> Result<(), DeviceFault> {
+        let pages = self.pages(side);
+        let mut is_done = true;
+        for (offset, byte) in bytes.iter().enumerate() {
+            is_done &= pages.put((place as usize).saturating_add(offset), *byte);
+        }
+        self.told(is_done, side, Call::Write)
+    }
+
+    fn cut(&mut self, side: Side, len: u64) -> Result<(), DeviceFault> {
+        let pages = self.pages(side);
+        pages.shown.truncate(len as usize);
+        let is_done = pages.mark(len as usize);
+        self.told(is_done, side, Call::Cut)
+    }
+
+    fn sync(&mut self, side: Side) -> Result<(), DeviceFault> {
+        self.syncs = self.syncs.wrapping_add(1);
+        let fails = self.syncs == self.fails_at;
+        let has_power = self.syncs <= self.power_until;
+        let pages = self.pages(side);
+        let is_done = !fails && (!has_power || pages.keep());
+        pages.forget();
+        self.told(is_done, side, Call::Sync)
+    }
+
+    fn send(&mut self, _to: NodeId, _number: u64, _message: &Message) {}
+
+    fn ack(&mut self, _to: NodeId, _number: u64) {}
+
+    fn reply(&mut self, _session: u64, _request: u64, _answer: &Answer) {}
+}
+
+type Engine = Flusher<ForgetfulSite>;
+
+fn opened<R: Abort + AllocGlobal>(rt: &R, site: ForgetfulSite) -> Result<Engine, OpenFault> {
+    match Flusher::open(rt.alloc(), site) {
+        Ok((engine, core)) => {
+            drop(core);
+            Ok(engine)
+        }
+        Err(Back { site, fault }) => {
+            drop(site);
+            Err(fault)
+        }
+    }
+}
+
+// A session that never asked sets the flag. Whether that is durable.
+fn set_flag<R: Abort + AllocGlobal>(rt: &R, engine: &mut Engine, session: u64) -> bool {
+    if engine.owes() || !engine.room() {
+        panic!(rt; "there is no room");
+    }
+    let mut batch = batch_of(rt, engine.twin(), Part::Flag(session));
+    let is_done = engine.flush(&mut batch).is_ok();
+    drop(batch);
+    is_done
+}
+
+fn moves<R: Abort>(rt: &R, engine: &mut Engine) -> Result<(), CheckpointFault> {
+    if engine.owes() {
+        panic!(rt; "it owes outputs");
+    }
+    engine.checkpoint()
+}
+
+fn sessions(engine: &Engine) -> usize {
+    engine.twin().core().sessions().rows().len()
+}
+
+// Member 1 of 1, which one session asked.
+fn asked_once<R: Abort + AllocGlobal>(rt: &R) -> ForgetfulSite {
+    let site = match format(rt.alloc(), ForgetfulSite::new(rt.alloc()), &MEMBER) {
+        Ok(site) => site,
+        Err(Back { site, fault }) => {
+            drop(site);
+            panic!(rt; "formatting fails: {fault}")
+        }
+    };
+    let mut engine = opened(rt, site).expect(rt, "it is opened");
+    assert!(rt; set_flag(rt, &mut engine, 1));
+    engine.close()
+}
+
+// The gate of a second session's record wasn't synced: two syncs make sure of the sides, one of the record, and the fourth fails.
+fn without_its_gate<R: Abort + AllocGlobal>(rt: &R) -> ForgetfulSite {
+    let mut site = asked_once(rt);
+    site.fails_at = site.syncs.saturating_add(4);
+    let mut engine = opened(rt, site).expect(rt, "it is opened");
+    assert!(rt; !set_flag(rt, &mut engine, 2));
+    engine.close()
+}
+
+// The gate that arms the other side wasn't synced: behind those of opening and of the state.
+fn without_its_arming<R: Abort + AllocGlobal>(rt: &R) -> ForgetfulSite {
+    let mut site = asked_once(rt);
+    site.fails_at = site.syncs.saturating_add(4);
+    let mut engine = opened(rt, site).expect(rt, "it is opened");
+    assert!(rt; moves(rt, &mut engine).is_err());
+    engine.close()
+}
+
+// How many sessions an engine has that is opened after a power cut, if it can be opened.
+fn after_power_cut<R: Abort + AllocGlobal>(rt: &R, site: ForgetfulSite) -> Option<usize> {
+    let mut site = site;
+    site.lose_power(rt);
+    let engine = opened(rt, site).ok()?;
+    let count = sessions(&engine);
+    drop(engine);
+    Some(count)
+}
+
+// A third session asks, and the power is cut.
+fn asked_on<R: Abort + AllocGlobal>(rt: &R, engine: Engine) -> Option<usize> {
+    let mut engine = engine;
+    assert!(rt; sessions(&engine) == 2, "reads show what wasn't synced");
+    assert!(rt; set_flag(rt, &mut engine, 3));
+    after_power_cut(rt, engine.close())
+}
+
+fn opened_anew<R: Abort + AllocGlobal>(rt: &R, site: ForgetfulSite) -> ForgetfulSite {
+    match open_anew(rt.alloc(), site) {
+        Ok((engine, core)) => {
+            drop(core);
+            engine.close()
+        }
+        Err(Back { site, fault: _ }) => site,
+    }
+}
+
+#[test]
+fn what_follows_a_gate_that_was_not_synced_is_lost_unless_it_is_written_anew(rt: HostRuntime) {
+    let plain = opened(&rt, without_its_gate(&rt)).expect(&rt, "it is opened");
+    assert!(rt; asked_on(&rt, plain) == Some(1));
+    let site = opened_anew(&rt, without_its_gate(&rt));
+    let anew = opened(&rt, site).expect(&rt, "it is opened");
+    assert!(rt; asked_on(&rt, anew) == Some(3));
+}
+
+// The power is cut after so many syncs of opening.
+fn cut_within<R: Abort + AllocGlobal>(rt: &R, syncs: u64) -> Option<usize> {
+    let mut site = without_its_arming(rt);
+    site.power_until = site.syncs.saturating_add(syncs);
+    after_power_cut(rt, opened_anew(rt, site))
+}
+
+// The same where the node is moved as it stands.
+fn cut_within_a_move<R: Abort + AllocGlobal>(rt: &R, syncs: u64) -> Option<usize> {
+    let mut site = without_its_arming(rt);
+    site.power_until = site.syncs.saturating_add(syncs);
+    let mut engine = opened(rt, site).expect(rt, "it is opened");
+    assert!(rt; moves(rt, &mut engine).is_ok());
+    after_power_cut(rt, engine.close())
+}
+
+#[test]
+fn a_side_whose_arming_was_not_synced_is_armed_again(rt: HostRuntime) {
+    let mut lost = 0u64;
+    for syncs in 0..12 {
+        assert!(rt; cut_within(&rt, syncs) == Some(1), "after {syncs} syncs");
+        if cut_within_a_move(&rt, syncs).is_none() {
+            lost = lost.saturating_add(1);
+        }
+    }
+    assert!(rt; lost > 0, "without that both sides are closed for a while");
+}
