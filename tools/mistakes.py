@@ -13,6 +13,8 @@ import socket
 import subprocess
 import sys
 import time
+import urllib.error
+import urllib.request
 
 from nodes import LOOPBACK, Cluster, Verdicts, end_on_signals, free_ports
 
@@ -39,7 +41,14 @@ def of_words(address):
         ([*ask, "collect", "--text", "a"], "collect takes no --text, as store does"),
         ([*ask, "collect", "--request", "0"], "--request isn't a number from 1 on, such as 12"),
         ([*ask, "collect", "--timeout", "soon"], "--timeout isn't a number of seconds, such as 10"),
+        ([*ask, "collect", "--status", "here"], "--status isn't an address and a port, such as 127.0.0.1:8001"),
         (["retire", address, "0"], "ID isn't the id of a node, such as 3"),
+        (["retire", address], "retire takes ADDRS and ID, or --peers-file FILE and ID"),
+        (["retire", address, "2", "--peers-file", "peers"], "retire takes ADDRS and ID, or --peers-file FILE and ID"),
+        (["retire", f"{address},7002", "2"],
+         "ADDRS isn't a list of addresses and ports, such as 127.0.0.1:7001,127.0.0.1:7002"),
+        (["retire", "2", "--peers-file", "peers"], "peers names no node but the one to retire"),
+        (["retire", "2", "--peers-file", "no-file"], "no-file: No such file or directory"),
         (["format", ABSENT, "one"], "ID isn't a number, such as 4"),
         (["format", ABSENT, "1", "--initial", "1;2"], "--initial isn't a list of numbers, such as 1,2,3"),
         (["format", ABSENT, "1", "--contacts", ""], "--contacts isn't a list of numbers, such as 1,2,3"),
@@ -78,6 +87,35 @@ BEGINNINGS = [
     (["1", "--initial", ",".join(map(str, range(1, 258)))],
      "--initial and --contacts name more than 256 nodes, itself among them"),
 ]
+
+
+class Shown(Cluster):
+    """A cluster whose nodes tell their status."""
+
+    def __init__(self, *words):
+        self.pages = {}
+        super().__init__(*words)
+        self.pages = dict(zip(self.nodes, free_ports(len(self.nodes))))
+
+    def page(self, node):
+        return f"{LOOPBACK}:{self.pages[node]}"
+
+    def run_words(self, node):
+        return [*super().run_words(node), "--status", self.page(node)]
+
+    def reason(self, node):
+        """Why a node isn't ready, once it isn't for another reason than that it has just been started."""
+        for _ in range(100):
+            try:
+                urllib.request.urlopen(f"http://{self.page(node)}/readyz", timeout=1).close()
+            except urllib.error.HTTPError as error:
+                said = error.read().decode().strip()
+                if "just been started" not in said:
+                    return said
+            except OSError:
+                pass
+            time.sleep(0.1)
+        return "it is ready"
 
 
 class Mistakes:
@@ -141,8 +179,47 @@ class Mistakes:
         self.cluster.start(1)
         address = self.cluster.address(1)
         wait_for(address)
-        self.compare(["ask", address, "7", "collect", *quick], 1, "no answer", f"ccnode: {address} doesn't answer")
+        self.compare(["ask", address, "7", "collect", *quick], 1, "no answer",
+                     f"ccnode: {address} took the request, but too few members answer")
+        reason = self.cluster.reason(1)
+        self.compare(["ask", address, "7", "collect", *quick, "--status", self.cluster.page(1)], 1, "no answer",
+                     f"ccnode: {reason}")
         self.compare(["status", address], 1, "no answer", f"ccnode: {address} isn't where a node tells its status")
+
+    def ask_deaf(self):
+        """An address that takes no connection: its queue is full."""
+        with socket.socket() as deaf:
+            deaf.bind((LOOPBACK, 0))
+            deaf.listen(0)
+            address = f"{LOOPBACK}:{deaf.getsockname()[1]}"
+            waiting = [socket.socket() for _ in range(4)]
+            for it in waiting:
+                it.setblocking(False)
+                it.connect_ex(deaf.getsockname())
+            began = time.monotonic()
+            self.compare(["ask", address, "7", "collect", "--timeout", "2"], 1, "no answer",
+                         f"ccnode: {address} doesn't answer")
+            took = time.monotonic() - began
+            self.count += 1
+            if not 1.9 < took < 2.15:
+                self.verdicts.add(False, f"ask with --timeout 2 at an address that takes no connection took {took:.2f} s")
+            for it in waiting:
+                it.close()
+
+    def retire_wrongly(self):
+        """A node retires itself, or one that it hears; and one that has left retires another."""
+        address = self.cluster.address(1)
+        self.cluster.start(2)
+        wait_for(self.cluster.address(2))
+        time.sleep(2)
+        self.compare(["ask", address, "7", "collect"], 0, "Seen []", "")
+        self.compare(["retire", address, "1"], 1, "refused 32 Itself",
+                     f"ccnode: that is the node at {address} itself: `ccnode leave {address}` has it leave")
+        self.compare(["retire", address, "2"], 1, "refused 33 Alive",
+                     "ccnode: that node was heard within three seconds: --alive retires it all the same")
+        self.compare(["leave", address], 0, "left", "")
+        self.compare(["leave", address], 0, "left", "")
+        self.compare(["retire", address, "2", "--alive"], 1, "refused 1 Left", "")
 
     def take_twice(self):
         """A folder, and an address, that a running node has."""
@@ -168,7 +245,7 @@ def wait_for(address):
 def main(program):
     end_on_signals()
     verdicts = Verdicts()
-    with Cluster(program, 2) as cluster:
+    with Shown(program, 2) as cluster:
         mistakes = Mistakes(cluster, verdicts)
         (cluster.folder / "peers").write_text("2=127.0.0.1:2\n")
         (cluster.folder / "faulty-peers").write_text("# peers\n2=127.0.0.1:2\n3:127.0.0.1:3\n")
@@ -177,7 +254,9 @@ def main(program):
         mistakes.make_folders()
         mistakes.lose_files()
         mistakes.ask_nobody()
+        mistakes.ask_deaf()
         mistakes.take_twice()
+        mistakes.retire_wrongly()
         verdicts.add(verdicts.is_good, f"{mistakes.count} mistakes are told as docs/RUN.md says")
     return 0 if verdicts.is_good else 1
 

@@ -36,7 +36,12 @@ const ASKED_AS_JSON: [(&[&str], Option<u64>, Told, &str); 7] = [
         DONE,
         "{\"answer\":\"Seen\",\"view\":[{\"node\":1,\"number\":\"5\",\"text\":\"a=b\",\"max\":\"9\",\"flag\":true,\"set\":[5]}]}\n",
     ),
-    (&["readmax"], None, DONE, "{\"answer\":\"Max\",\"max\":\"9\"}\n"),
+    (
+        &["readmax"],
+        None,
+        DONE,
+        "{\"answer\":\"Max\",\"max\":\"9\"}\n",
+    ),
     (
         &["readflag"],
         None,
