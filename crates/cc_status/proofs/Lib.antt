@@ -1,2 +1,3 @@
 mod LiveIds
 mod ShownTexts
+mod TextsApart

@@ -1,7 +1,7 @@
 -- What a text is shown as.
 --     plain_utf8, base64_utf8       as it stands where it is UTF-8
 --     plain_other, base64_other     and else in base64
-use Rattle.std.proofs.Common.{◌≡◌, ℕ, List, Option, Some, None, false, cond, ap}
+use Rattle.std.proofs.Common.{◌≡◌, ℕ, List, Some, None, false, cond, ap}
 use Rattle.std.specs.Str.{IsUtf8, is_utf8}
 use Rattle.std.proofs.lemmas.Bool.{false_from_ne_true}
 use Rattle.std.proofs.lemmas.Str.{IsUtf8-from_is_utf8, is_utf8-from_IsUtf8}

@@ -4,6 +4,7 @@
 
 mod counting;
 mod counts;
+mod laws;
 mod laying;
 mod live;
 mod members;
@@ -16,6 +17,7 @@ mod texts;
 mod wide;
 
 pub use counts::{BATCH_BOUNDS, COMMANDS, Counted, REFUSALS, SYNC_BOUNDS, SyncCounts};
+pub use laws::texts_are_told_apart;
 pub use laying::status_of;
 pub use live::{DiskShown, Live, PeerNote, Shown};
 pub use metrics::Metrics;
