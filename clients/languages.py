@@ -3,8 +3,8 @@
 
     languages.py
 
-Run by itself it runs the unit tests of each language whose tool is installed, names the others as left out, and tests the
-check of histories.py. The status is 1 where a test fails.
+Run by itself it runs the unit tests of each language whose tool is installed, names the others as left out, and tests
+examples/client.py and the check of histories.py. The status is 1 where a test fails.
 """
 import pathlib
 import shutil
@@ -83,7 +83,8 @@ def passes(what, words, folder):
 
 def main():
     verdicts = [passes(language.name, language.unit_tests, language.folder) for language in installed()]
-    verdicts.append(passes("the check of histories", [sys.executable, "-m", "unittest", "test_histories"], HERE))
+    for what, test in (("the example client", "test_example"), ("the check of histories", "test_histories")):
+        verdicts.append(passes(what, [sys.executable, "-m", "unittest", test], HERE))
     sys.exit(not all(verdicts))
 
 

@@ -2,7 +2,8 @@
 """A client of one node, by docs/FORMATS.md and the standard library alone: client.py 127.0.0.1:7001 7 store hello
 
 Its words are those of `ccnode ask`: an address, a session, and store WORD, collect, max N, readmax, flag, readflag, add N
-or readset. It prints the answer, its texts as they are, or `refused`, the refusal's number and what it carries.
+or readset. It prints the answer, its texts as they are, or `refused`, the refusal's number and what it carries. Where
+another client uses the session it says so, and its status is 1.
 """
 import socket
 import struct
@@ -10,7 +11,12 @@ import sys
 import time
 
 COMMANDS = ["store", "collect", "max", "readmax", "flag", "readflag", "add", "readset"]
-REPEAT, STALE, BUSY, OUTBOX_FULL, QUEUE_FULL = 10, 11, 13, 15, 18
+# The first word of the answer that each command gets.
+ANSWERS = dict(zip(COMMANDS, ["Stored", "Seen", "Stored", "Max", "Stored", "Flag", "Stored", "Set"]))
+FENCE = ["readflag"]
+REPEAT, STALE, SKIP, BUSY, OUTBOX_FULL, QUEUE_FULL = 10, 11, 12, 13, 15, 18
+# The node asks for patience: it may take the same request later.
+PASSING = (BUSY, OUTBOX_FULL, QUEUE_FULL)
 
 
 def command_bytes(words):
@@ -72,29 +78,81 @@ def answer_to(connection, session, request, command):
                 return None, frame[17], int.from_bytes(frame[18:], "big")
 
 
+class SessionInUse(Exception):
+    """Another client asks in this session. Whether the command was done isn't known."""
+
+
+class Request:
+    """A command, and what is asked next on its behalf: under 0, then the fence, then the command itself.
+
+    An earlier client's request may still be on its way under the number after the session's last one. So that number goes
+    to a reading, the fence, which does no harm. Once it is answered the earlier request was done, or never will be, and the
+    number after it is the command's.
+    """
+
+    def __init__(self, words):
+        self.words, self.step = words, "last"
+        self.number, self.asked = 0, FENCE
+
+    def take_number(self, last):
+        """The fence goes under the number after the session's last request."""
+        self.step, self.number, self.asked = "fence", last + 1, FENCE
+
+    def is_told(self, answer, refusal, last):
+        """What the command comes to, where that is told by now. Else what is asked next has been set."""
+        if self.step == "command":
+            return self.outcome(answer, refusal, last)
+        if refusal == STALE:
+            self.take_number(last)
+        elif refusal:
+            return f"refused {refusal} {last}"
+        elif self.step == "fence" and answers(FENCE, answer):
+            self.step, self.number, self.asked = "command", self.number + 1, self.words
+        else:
+            # The number was taken by a request of an earlier client.
+            self.step, self.number = "last", 0
+        return None
+
+    def outcome(self, answer, refusal, last):
+        if refusal in (STALE, SKIP) or (answer and not answers(self.words, answer)):
+            raise SessionInUse(f"request {self.number} is another client's")
+        return answer or f"refused {refusal} {last}"
+
+
+def answers(words, answer):
+    """Whether the answer is one that this command gets."""
+    return answer.split()[0] == ANSWERS[words[0]]
+
+
 def ask(address, session, words, seconds=10.0):
     """The command's answer, or its refusal. It is asked under one number, so it is done once whatever breaks."""
     host, port = address.rsplit(":", 1)
-    command, request, end = command_bytes(words), 0, time.monotonic() + seconds
+    request, end = Request(words), time.monotonic() + seconds
+    # Words that are no command fail before anything is sent.
+    command_bytes(words)
     while True:
         try:
             with socket.create_connection((host, int(port)), timeout=2) as connection:
                 connection.setsockopt(socket.IPPROTO_TCP, socket.TCP_NODELAY, 1)
                 while True:
-                    answer, refusal, last = answer_to(connection, session, request, command)
-                    if answer:
-                        return answer
-                    if request == 0 and refusal == STALE:
-                        request = last + 1
-                    elif refusal not in (BUSY, OUTBOX_FULL, QUEUE_FULL) or time.monotonic() > end:
-                        return f"refused {refusal} {last}"
-                    else:
+                    told = answer_to(connection, session, request.number, command_bytes(request.asked))
+                    if told[1] in PASSING and time.monotonic() < end:
                         time.sleep(0.02)
+                    elif outcome := request.is_told(*told):
+                        return outcome
         except OSError:
             if time.monotonic() > end:
                 raise
             time.sleep(0.1)
 
 
+def main():
+    address, session, words = sys.argv[1], int(sys.argv[2]), sys.argv[3:]
+    try:
+        print(ask(address, session, words))
+    except SessionInUse as why:
+        sys.exit(f"another client uses session {session}: {why}")
+
+
 if __name__ == "__main__":
-    print(ask(sys.argv[1], int(sys.argv[2]), sys.argv[3:]))
+    main()

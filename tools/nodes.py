@@ -21,7 +21,7 @@ sys.path.insert(0, str(HERE.parent / "examples"))
 import client  # noqa: E402  (the example client has the frames)
 
 LOOPBACK = "127.0.0.1"
-PASSING = (client.BUSY, client.OUTBOX_FULL, client.QUEUE_FULL)
+PASSING = client.PASSING
 TICKS_A_SECOND = os.sysconf("SC_CLK_TCK")
 # An answer that takes a client so many seconds is noted.
 SLOW = 1.0

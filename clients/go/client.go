@@ -7,6 +7,7 @@ import (
 	"errors"
 	"fmt"
 	"net"
+	"strconv"
 	"time"
 )
 
@@ -72,8 +73,12 @@ func checkAll(addresses []string) error {
 		return fmt.Errorf("%w: an address is needed", ErrInvalidArgument)
 	}
 	for _, address := range addresses {
-		if _, _, err := net.SplitHostPort(address); err != nil {
+		host, port, err := net.SplitHostPort(address)
+		if err != nil {
 			return fmt.Errorf("%w: an address is HOST:PORT: %v", ErrInvalidArgument, err)
+		}
+		if number, err := strconv.ParseUint(port, 10, 16); err != nil || number == 0 || host == "" {
+			return fmt.Errorf("%w: an address is HOST:PORT, not %q", ErrInvalidArgument, address)
 		}
 	}
 	return nil
@@ -200,15 +205,10 @@ func (c *Client) request(ctx context.Context, asked command) (answer, error) {
 	if err := c.prepare(ctx); err != nil {
 		return answer{}, err
 	}
-	number := c.next
-	got, err := c.done(ctx, request{number, asked})
+	got, err := c.answered(ctx, request{c.next, asked})
 	var late *DeadlineExceededError
 	if errors.As(err, &late) {
 		late.IsPending = c.pending != nil
-	}
-	if err == nil && got.kind != asked.answer {
-		c.next = 0
-		return answer{}, fmt.Errorf("%w: request %d got an answer to another command", ErrSessionInUse, number)
 	}
 	return got, err
 }
@@ -230,12 +230,10 @@ func (c *Client) settle(ctx context.Context) error {
 		return nil
 	}
 	pending := *c.pending
-	got, err := c.done(ctx, pending)
-	if isRefused(err) {
+	_, err := c.answered(ctx, pending)
+	// Nobody waits for what a reading would have told any more.
+	if isRefused(err) || errors.Is(err, ErrSessionInUse) && pending.asked.isReading() {
 		return nil
-	}
-	if err == nil && got.kind != pending.asked.answer {
-		c.next = 0
 	}
 	return err
 }
@@ -245,51 +243,61 @@ func (c *Client) settle(ctx context.Context) error {
 // A request that an earlier client gave up may still be on its way under the number after the last one. So that number goes
 // to a reading, which does no harm: once it is answered, the other one has been done, or never will be.
 func (c *Client) learn(ctx context.Context) error {
-	for {
-		last, err := c.lastRequest(ctx)
-		if err != nil {
-			return err
+	last, err := c.lastRequest(ctx)
+	for err == nil {
+		var got told
+		got, err = c.told(ctx, request{last + 1, readFlagCommand})
+		switch {
+		case err != nil:
+		case got.isRefused():
+			// The other one has taken the number, or a later one.
+			last, err = got.last()
+		case got.answer.kind == flagAnswer:
+			c.next = last + 2
+			return nil
+		default:
+			last, err = c.lastRequest(ctx)
 		}
-		got, err := c.done(ctx, request{last + 1, readFlagCommand})
-		if err != nil || got.kind == flagAnswer {
-			return err
-		}
-		c.next = 0
 	}
+	return err
 }
 
 func (c *Client) lastRequest(ctx context.Context) (uint64, error) {
-	what, err := c.ask(ctx, request{0, readFlagCommand})
+	got, err := c.ask(ctx, request{0, readFlagCommand})
 	switch {
 	case err != nil:
 		return 0, err
-	case !what.isRefused():
+	case !got.isRefused():
 		return 0, fmt.Errorf("%w: request 0, which no node takes, was answered", ErrSessionInUse)
-	case what.refusal != Stale:
-		return 0, what.refused()
-	case what.carried > maxRequest:
-		return 0, &MalformedError{TooLarge}
 	}
-	return what.carried, nil
+	return got.last()
 }
 
-// The answer to a request, which is pending once it was sent until the node says what became of it.
-func (c *Client) done(ctx context.Context, what request) (answer, error) {
-	got, err := c.ask(ctx, what)
-	if err != nil {
-		return answer{}, err
-	}
-	c.pending = nil
+// The answer to a request: one of the command's kind.
+func (c *Client) answered(ctx context.Context, what request) (answer, error) {
+	got, err := c.told(ctx, what)
 	switch {
-	case !got.isRefused():
-		c.next = what.number + 1
-		return got.answer, nil
+	case err != nil:
+		return answer{}, err
 	case got.refusal == Stale || got.refusal == Skip:
-		c.next = 0
-		return answer{}, fmt.Errorf("%w: request %d isn't next: the last one is %d", ErrSessionInUse, what.number, got.carried)
+		return answer{}, got.notNext()
+	case got.isRefused():
+		c.next = what.number
+		return answer{}, got.refused()
+	case got.answer.kind != what.asked.answer:
+		return answer{}, fmt.Errorf("%w: request %d got an answer to another command", ErrSessionInUse, what.number)
 	}
-	c.next = what.number
-	return answer{}, got.refused()
+	c.next = what.number + 1
+	return got.answer, nil
+}
+
+// What becomes of a request, which is pending once it was sent until the node says so.
+func (c *Client) told(ctx context.Context, what request) (told, error) {
+	got, err := c.ask(ctx, what)
+	if err == nil {
+		c.pending, c.next = nil, 0
+	}
+	return got, err
 }
 
 // What the node says of a request: its answer, or a refusal that stands. Until then it is asked again.

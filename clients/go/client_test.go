@@ -86,6 +86,20 @@ func TestARequestOfAnEarlierClientTakesNoWriteWithIt(t *testing.T) {
 	node.wants(heard{0, readFlag}, heard{6, readFlag}, heard{7, storeB})
 }
 
+func TestANumberThatAnotherCommandHasTakenIsLeftToIt(t *testing.T) {
+	steps := [][]byte{refusing(0, Stale, 4), refusing(5, Stale, 5), refusing(6, Stale, 8), reply(9, flagOff), reply(10, stored)}
+	node := newScriptedNode(t, steps...)
+	store(t, newClient(t, node), "b")
+	node.wants(heard{6, readFlag}, heard{9, readFlag}, heard{10, storeB})
+}
+
+func TestANumberBeyondTheNextOneIsOfAnotherSession(t *testing.T) {
+	node := newScriptedNode(t, refusing(0, Stale, 4), refusing(5, Skip, 2))
+	if _, err := Connect(context.Background(), []string{node.address()}, testSession); !errors.Is(err, ErrSessionInUse) {
+		t.Errorf("%v, not ErrSessionInUse", err)
+	}
+}
+
 func TestABrokenConnectionLeavesTheNumber(t *testing.T) {
 	node := newNode(t, nil, reply(6, stored))
 	store(t, newClient(t, node), "a")
@@ -132,6 +146,30 @@ func TestALateRequestThatIsRefusedLeavesItsNumber(t *testing.T) {
 	wantLate(t, client.Add(within(t, 50*time.Millisecond), 9), true)
 	store(t, client, "b")
 	node.wants(heard{6, addNine}, heard{6, addNine}, heard{6, storeB})
+}
+
+func TestALateReadingWhoseNumberAnotherCommandHasTakenIsForgotten(t *testing.T) {
+	for _, says := range [][]byte{refusing(6, Stale, 6), reply(6, stored)} {
+		node := newNode(t, append(append([][]byte{silence, says}, learned(6)...), reply(8, stored))...)
+		client := newClient(t, node)
+		_, err := client.Collect(within(t, 50*time.Millisecond))
+		wantLate(t, err, true)
+		store(t, client, "b")
+		node.wants(heard{6, collect}, heard{6, collect}, heard{0, readFlag}, heard{7, readFlag}, heard{8, storeB})
+	}
+}
+
+func TestALateWriteWhoseNumberAnotherCommandHasTakenIsTold(t *testing.T) {
+	for _, says := range [][]byte{refusing(6, Stale, 6), reply(6, flagOff)} {
+		node := newNode(t, append(append([][]byte{silence, says}, learned(6)...), reply(8, stored))...)
+		client := newClient(t, node)
+		wantLate(t, client.Store(within(t, 50*time.Millisecond), []byte("a")), true)
+		if err := client.Store(context.Background(), []byte("b")); !errors.Is(err, ErrSessionInUse) {
+			t.Errorf("%v, not ErrSessionInUse", err)
+		}
+		store(t, client, "b")
+		node.wants(heard{6, storeA}, heard{6, storeA}, heard{0, readFlag}, heard{7, readFlag}, heard{8, storeB})
+	}
 }
 
 func TestARequestThatWasNeverSentIsNotPending(t *testing.T) {
@@ -223,7 +261,7 @@ func TestArgumentsAreLookedAtBeforeAnythingIsSent(t *testing.T) {
 	if err := client.Store(context.Background(), make([]byte, 65)); !errors.Is(err, ErrInvalidArgument) {
 		t.Errorf("%v, not ErrInvalidArgument", err)
 	}
-	for _, addresses := range [][]string{nil, {"7001"}} {
+	for _, addresses := range [][]string{nil, {"7001"}, {":7001"}, {"127.0.0.1:0"}, {"127.0.0.1:65536"}, {"127.0.0.1:http"}} {
 		if _, err := Connect(context.Background(), addresses, testSession); !errors.Is(err, ErrInvalidArgument) {
 			t.Errorf("%v, not ErrInvalidArgument", err)
 		}

@@ -1,3 +1,3 @@
-module ccnode
+module ccnode.invalid/ccnode
 
 go 1.19

@@ -56,6 +56,9 @@ type command struct {
 	answer  answerKind
 }
 
+// Whether it changes nothing.
+func (c command) isReading() bool { return c.answer != storedAnswer }
+
 var (
 	collectCommand  = command{[]byte{2}, seenAnswer}
 	readMaxCommand  = command{[]byte{4}, maxAnswer}
@@ -99,6 +102,23 @@ type told struct {
 func (t told) isRefused() bool { return t.refusal != 0 }
 
 func (t told) refused() *RefusedError { return &RefusedError{t.refusal, t.carried} }
+
+func (t told) notNext() error {
+	return fmt.Errorf("%w: request %d isn't next: the last one is %d", ErrSessionInUse, t.request, t.carried)
+}
+
+// The session's last request, by a refusal that tells it.
+func (t told) last() (uint64, error) {
+	switch {
+	case t.refusal == Skip:
+		return 0, t.notNext()
+	case t.refusal != Stale:
+		return 0, t.refused()
+	case t.carried > maxRequest:
+		return 0, &MalformedError{TooLarge}
+	}
+	return t.carried, nil
+}
 
 // The length of a frame's body, by the frame's first four bytes.
 func decodeLength(prefix []byte) (int, error) {

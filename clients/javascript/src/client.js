@@ -115,12 +115,7 @@ export class Client {
       await this.#settle(deadline);
       const number = this.#next ?? (await this.#learn(deadline));
       isAsked = true;
-      const answer = await this.#done(number, command, deadline);
-      if (answer.kind === command.answer) {
-        return answer.value;
-      }
-      this.#next = undefined;
-      throw new SessionInUse(`request ${number} got an answer to another command`);
+      return await this.#answered(number, command, deadline);
     } catch (error) {
       if (error instanceof DeadlineExceeded) {
         error.isPending = isAsked && this.#pending !== undefined;
@@ -165,12 +160,11 @@ export class Client {
     }
     const { number, command } = this.#pending;
     try {
-      const answer = await this.#done(number, command, deadline);
-      if (answer.kind !== command.answer) {
-        this.#next = undefined;
-      }
+      await this.#answered(number, command, deadline);
     } catch (error) {
-      if (!(error instanceof Refused)) {
+      // Nobody waits for what a reading would have told any more.
+      const isOver = error instanceof Refused || (error instanceof SessionInUse && wire.isReading(command));
+      if (!isOver) {
         throw error;
       }
     }
@@ -180,43 +174,49 @@ export class Client {
   // up may still be on its way under the number after the last one. So that number goes to a reading, which does no harm: once
   // it is answered, the other one has been done, or never will be.
   async #learn(deadline) {
+    let last = await this.#lastRequest(deadline);
     for (;;) {
-      const last = await this.#lastRequest(deadline);
-      const answer = await this.#done(last + 1n, wire.READ_FLAG, deadline);
-      if (answer.kind === 'Flag') {
-        return last + 2n;
+      const told = await this.#told(last + 1n, wire.READ_FLAG, deadline);
+      if (told.answer?.kind === 'Flag') {
+        this.#next = last + 2n;
+        return this.#next;
       }
+      // Else the other one has taken the number, or a later one.
+      last = told.answer === undefined ? lastTold(told) : await this.#lastRequest(deadline);
     }
   }
 
   async #lastRequest(deadline) {
-    const { refusal, carried } = await this.#ask(0n, wire.READ_FLAG, deadline);
-    if (refusal === undefined) {
+    const told = await this.#ask(0n, wire.READ_FLAG, deadline);
+    if (told.refusal === undefined) {
       throw new SessionInUse('request 0, which no node takes, was answered');
     }
-    if (refusal !== 'Stale') {
-      throw new Refused(refusal, carried);
-    }
-    if (carried > wire.MAX_REQUEST) {
-      throw new Malformed('TooLarge');
-    }
-    return carried;
+    return lastTold(told);
   }
 
-  // The answer to a request, which is pending once it was sent until the node says what became of it.
-  async #done(number, command, deadline) {
-    const { answer, refusal, carried } = await this.#ask(number, command, deadline);
+  // What the answer to a request has: one of the command's kind.
+  async #answered(number, command, deadline) {
+    const told = await this.#told(number, command, deadline);
+    if (told.refusal === 'Stale' || told.refusal === 'Skip') {
+      throw notNext(told);
+    }
+    if (told.answer === undefined) {
+      this.#next = number;
+      throw new Refused(told.refusal, told.carried);
+    }
+    if (told.answer.kind !== command.answer) {
+      throw new SessionInUse(`request ${number} got an answer to another command`);
+    }
+    this.#next = number + 1n;
+    return told.answer.value;
+  }
+
+  // What becomes of a request, which is pending once it was sent until the node says so.
+  async #told(number, command, deadline) {
+    const told = await this.#ask(number, command, deadline);
     this.#pending = undefined;
-    if (answer !== undefined) {
-      this.#next = number + 1n;
-      return answer;
-    }
-    if (refusal === 'Stale' || refusal === 'Skip') {
-      this.#next = undefined;
-      throw new SessionInUse(`request ${number} isn't next: the session's last one is ${carried}`);
-    }
-    this.#next = number;
-    throw new Refused(refusal, carried);
+    this.#next = undefined;
+    return told;
   }
 
   // What the node says of a request: its answer, or a refusal that stands. Until then it is asked again.
@@ -279,6 +279,23 @@ export class Client {
   }
 }
 
+// The session's last request, by a refusal that tells it.
+function lastTold(told) {
+  if (told.refusal === 'Skip') {
+    throw notNext(told);
+  }
+  if (told.refusal !== 'Stale') {
+    throw new Refused(told.refusal, told.carried);
+  }
+  if (told.carried > wire.MAX_REQUEST) {
+    throw new Malformed('TooLarge');
+  }
+  return told.carried;
+}
+
+const notNext = ({ request, carried }) =>
+  new SessionInUse(`request ${request} isn't next: the session's last one is ${carried}`);
+
 function milliseconds(timeout) {
   if (!(typeof timeout === 'number' && timeout > 0 && timeout <= LONGEST_TIMEOUT)) {
     throw new InvalidArgument(`a time is above 0 and at most ${LONGEST_TIMEOUT} ms, not ${String(timeout)}`);
@@ -287,7 +304,7 @@ function milliseconds(timeout) {
 }
 
 function parseAll(addresses) {
-  const texts = typeof addresses === 'string' ? [addresses] : [...addresses];
+  const texts = Array.isArray(addresses) ? addresses : [addresses];
   if (texts.length === 0) {
     throw new InvalidArgument('an address is needed');
   }
@@ -295,7 +312,7 @@ function parseAll(addresses) {
 }
 
 function parse(text) {
-  const parts = /^(.+):([0-9]{1,5})$/.exec(String(text));
+  const parts = typeof text === 'string' ? /^(.+):([0-9]{1,5})$/.exec(text) : null;
   const port = Number(parts?.[2]);
   if (!(port > 0 && port < 65_536)) {
     throw new InvalidArgument(`an address is HOST:PORT, not ${String(text)}`);

@@ -29,6 +29,9 @@ export const SET_FLAG = command('Stored', kind(5));
 export const READ_FLAG = command('Flag', kind(6));
 export const READ_SET = command('Set', kind(8));
 
+/** Whether a command changes nothing. */
+export const isReading = ({ answer }) => answer !== 'Stored';
+
 /** @param {string | Uint8Array} text a string is taken as UTF-8 */
 export function store(text) {
   if (typeof text !== 'string' && !(text instanceof Uint8Array)) {
@@ -37,6 +40,10 @@ export function store(text) {
   const encoded = Buffer.from(text);
   if (encoded.length > MAX_TEXT) {
     throw new InvalidArgument(`a text has ${MAX_TEXT} bytes at most, not ${encoded.length}`);
+  }
+  // Half of a pair of surrogates has no UTF-8.
+  if (typeof text === 'string' && encoded.toString() !== text) {
+    throw new InvalidArgument('a text that is no UTF-8');
   }
   return command('Stored', kind(1), kind(encoded.length), encoded);
 }

@@ -56,6 +56,18 @@ test('a request of an earlier client takes no write with it', async (context) =>
   assert.deepEqual(node.asks, [...LEARNING, [0, READ_FLAG], [6, READ_FLAG], [7, STORE_B]]);
 });
 
+test('a number that another command has taken is left to it', async (context) => {
+  const fences = [refused(0, 11, 4), refused(5, 11, 5), refused(6, 11, 8), reply(9, FLAG_0)];
+  const node = await scripted(context, [...fences, reply(10, STORED)]);
+  await (await clientOf(context, node)).store('b');
+  assert.deepEqual(node.asks, [...LEARNING, [6, READ_FLAG], [9, READ_FLAG], [10, STORE_B]]);
+});
+
+test('a number beyond the next one is of another session', async (context) => {
+  const node = await scripted(context, [refused(0, 11, 4), refused(5, 12, 2)]);
+  await assert.rejects(connect(node.address, SESSION), SessionInUse);
+});
+
 test('a broken connection leaves the number', async (context) => {
   const node = await nodeOf(context, null, reply(6, STORED));
   await (await clientOf(context, node)).store('a');
@@ -96,6 +108,37 @@ test('a late request that is refused leaves its number', async (context) => {
     [6, '0700000009'],
     [6, STORE_B],
   ]);
+});
+
+test('a late reading whose number another command has taken is forgotten', async (context) => {
+  for (const told of [refused(6, 11, 6), reply(6, STORED)]) {
+    const node = await nodeOf(context, NOTHING, told, ...learned(6), reply(8, STORED));
+    const client = await clientOf(context, node);
+    await assert.rejects(client.collect({ timeout: 50 }), isLate(true));
+    await client.store('b');
+    assert.deepEqual(node.asks.slice(3), [
+      [6, COLLECT],
+      [0, READ_FLAG],
+      [7, READ_FLAG],
+      [8, STORE_B],
+    ]);
+  }
+});
+
+test('a late write whose number another command has taken is told', async (context) => {
+  for (const told of [refused(6, 11, 6), reply(6, FLAG_0)]) {
+    const node = await nodeOf(context, NOTHING, told, ...learned(6), reply(8, STORED));
+    const client = await clientOf(context, node);
+    await assert.rejects(client.store('a', { timeout: 50 }), isLate(true));
+    await assert.rejects(client.store('b'), SessionInUse);
+    await client.store('b');
+    assert.deepEqual(node.asks.slice(3), [
+      [6, STORE_A],
+      [0, READ_FLAG],
+      [7, READ_FLAG],
+      [8, STORE_B],
+    ]);
+  }
 });
 
 test('a request that was never sent is not pending', async (context) => {
@@ -178,12 +221,19 @@ test('addresses are tried in turn', async (context) => {
 test('arguments are looked at before anything is sent', async (context) => {
   const node = await nodeOf(context);
   const client = await clientOf(context, node);
-  await assert.rejects(client.store(new Uint8Array(65)), InvalidArgument);
-  await assert.rejects(client.max(2n ** 64n), InvalidArgument);
+  for (const text of [new Uint8Array(65), '\ud800', 5, true, null, undefined, [97], new ArrayBuffer(1)]) {
+    await assert.rejects(client.store(text), InvalidArgument);
+  }
+  for (const number of [2n ** 64n, 2 ** 53, -1, -1n, 1.5, NaN, true, null, undefined, '1']) {
+    await assert.rejects(client.max(number), InvalidArgument);
+    await assert.rejects(connect(node.address, number), InvalidArgument);
+  }
   await assert.rejects(client.add(2 ** 32), InvalidArgument);
+  for (const timeout of [0, -1, NaN, 2 ** 31, '1', null]) {
+    await assert.rejects(connect(node.address, SESSION, { timeout }), InvalidArgument);
+  }
   await assert.rejects(client.flag({ timeout: 0 }), InvalidArgument);
-  await assert.rejects(connect(node.address, 2n ** 64n), InvalidArgument);
-  for (const addresses of [[], '7001', '127.0.0.1:0', '127.0.0.1:65536']) {
+  for (const addresses of [[], '7001', '127.0.0.1:0', '127.0.0.1:65536', 7001, [7001], null, undefined]) {
     await assert.rejects(connect(addresses, SESSION), InvalidArgument);
   }
   assert.deepEqual(node.asks, LEARNING);

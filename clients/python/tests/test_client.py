@@ -48,6 +48,15 @@ class ClientTest(unittest.TestCase):
         self.client(node).store("b")
         self.assertEqual(node.asks, [*LEARNING, (0, READ_FLAG), (6, READ_FLAG), (7, STORE_B)])
 
+    def test_a_number_that_another_command_has_taken_is_left_to_it(self) -> None:
+        node = self.kept(ScriptedNode([refused(0, 11, 4), refused(5, 11, 5), refused(6, 11, 8), reply(9, FLAG_0), reply(10, STORED)]))
+        self.client(node).store("b")
+        self.assertEqual(node.asks, [*LEARNING, (6, READ_FLAG), (9, READ_FLAG), (10, STORE_B)])
+
+    def test_a_number_beyond_the_next_one_is_of_another_session(self) -> None:
+        node = self.kept(ScriptedNode([refused(0, 11, 4), refused(5, 12, 2)]))
+        self.assertRaises(SessionInUse, self.client, node)
+
     def test_a_broken_connection_leaves_the_number(self) -> None:
         node = self.node(None, reply(6, STORED))
         self.client(node).store("a")
@@ -83,6 +92,23 @@ class ClientTest(unittest.TestCase):
         self.assertRaises(DeadlineExceeded, client.add, 9, timeout=0.05)
         client.store("b")
         self.assertEqual(node.asks[3:], [(6, "0700000009"), (6, STORE_B)])
+
+    def test_a_late_reading_whose_number_another_command_has_taken_is_forgotten(self) -> None:
+        for told in (refused(6, 11, 6), reply(6, STORED)):
+            node = self.node(b"", told, *learned(6), reply(8, STORED))
+            client = self.client(node)
+            self.assertRaises(DeadlineExceeded, client.collect, timeout=0.05)
+            client.store("b")
+            self.assertEqual(node.asks[3:], [(6, COLLECT), (0, READ_FLAG), (7, READ_FLAG), (8, STORE_B)])
+
+    def test_a_late_write_whose_number_another_command_has_taken_is_told(self) -> None:
+        for told in (refused(6, 11, 6), reply(6, FLAG_0)):
+            node = self.node(b"", told, *learned(6), reply(8, STORED))
+            client = self.client(node)
+            self.assertRaises(DeadlineExceeded, client.store, "a", timeout=0.05)
+            self.assertRaises(SessionInUse, client.store, "b")
+            client.store("b")
+            self.assertEqual(node.asks[3:], [(6, STORE_A), (0, READ_FLAG), (7, READ_FLAG), (8, STORE_B)])
 
     def test_a_request_that_was_never_sent_is_not_pending(self) -> None:
         node = self.node()
@@ -140,12 +166,17 @@ class ClientTest(unittest.TestCase):
     def test_arguments_are_looked_at_before_anything_is_sent(self) -> None:
         node = self.node()
         client = self.client(node)
-        self.assertRaises(InvalidArgument, client.store, bytes(65))
-        self.assertRaises(InvalidArgument, client.max, 2**64)
+        for text in (bytes(65), "\ud800", 5, True, None, 1.5, [97], ("a",)):
+            self.assertRaises(InvalidArgument, client.store, text)
+        for number in (2**64, -1, 1.0, True, None, "1"):
+            self.assertRaises(InvalidArgument, client.max, number)
+            self.assertRaises(InvalidArgument, ccnode.connect, node.address, number)
         self.assertRaises(InvalidArgument, client.add, 2**32)
-        self.assertRaises(InvalidArgument, client.flag, timeout=0)
-        self.assertRaises(InvalidArgument, ccnode.connect, node.address, 2**64)
-        for addresses in ([], "7001", "127.0.0.1:0", "127.0.0.1:65536"):
+        for time_given in (0, -1, True, "1", float("nan")):
+            self.assertRaises(InvalidArgument, client.flag, timeout=time_given)
+            self.assertRaises(InvalidArgument, client.watch, time_given)
+        self.assertRaises(InvalidArgument, ccnode.connect, node.address, SESSION, None)
+        for addresses in ([], "", "7001", "127.0.0.1:0", "127.0.0.1:65536", 7001, [7001], None, f"{'a' * 64}.b:7001"):
             self.assertRaises(InvalidArgument, ccnode.connect, addresses, SESSION)
         self.assertEqual(node.asks, LEARNING)
 

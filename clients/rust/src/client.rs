@@ -1,11 +1,12 @@
 //! A client of one node: one request at a time, each under a number of its own, asked again until it is answered.
 
+use crate::addresses::{look_up_all, Addresses};
 use crate::connection::{Connection, Deadline, Failure};
 use crate::error::{Cause, Error, Fault, Refusal};
 use crate::watch::Watch;
 use crate::wire::{encode_ask, Answer, Command, Row, Told, Verdict, MAX_REQUEST};
 use crate::Result;
-use std::net::{SocketAddr, ToSocketAddrs};
+use std::net::SocketAddr;
 use std::thread;
 use std::time::Duration;
 
@@ -26,30 +27,24 @@ const LONGEST_PAUSE: Duration = Duration::from_millis(320);
 ///
 /// # Errors
 ///
-/// Those of [`Client`], and `InvalidArgument` where the addresses can't be resolved.
-pub fn connect(addresses: impl ToSocketAddrs, session: u64) -> Result<Client> {
+/// Those of [`Client`], and `InvalidArgument` where an address is no `HOST:PORT`, or nobody knows its host.
+pub fn connect(addresses: impl Addresses, session: u64) -> Result<Client> {
     connect_timeout(addresses, session, DEFAULT_TIMEOUT)
 }
 
-/// As [`connect`], with a timeout for itself and for each call of the client.
+/// As [`connect`], with a timeout for itself, the look-up of names included, and for each call of the client.
 ///
 /// # Errors
 ///
 /// Those of [`connect`].
 pub fn connect_timeout(
-    addresses: impl ToSocketAddrs,
+    addresses: impl Addresses,
     session: u64,
     timeout: Duration,
 ) -> Result<Client> {
-    let addresses: Vec<SocketAddr> = addresses
-        .to_socket_addrs()
-        .map_err(|why| Error::InvalidArgument(why.to_string()))?
-        .collect();
-    if addresses.is_empty() {
-        return Err(Error::InvalidArgument("an address is needed".to_string()));
-    }
+    let deadline = Deadline::new(timeout);
     let mut client = Client {
-        addresses,
+        addresses: look_up_all(&addresses, deadline)?,
         session,
         timeout,
         connection: None,
@@ -57,7 +52,7 @@ pub fn connect_timeout(
         next: None,
         pending: None,
     };
-    client.learn(Deadline::new(timeout))?;
+    client.learn(deadline)?;
     Ok(client)
 }
 
@@ -168,11 +163,7 @@ impl Client {
     }
 
     fn request(&mut self, number: u64, command: &Command, deadline: Deadline) -> Result<Answer> {
-        match self.done(number, command, deadline) {
-            Ok(answer) if !command.gets(&answer) => {
-                self.next = None;
-                Err(Error::SessionInUse)
-            }
+        match self.answered(number, command, deadline) {
             Err(Error::DeadlineExceeded { cause, .. }) => Err(Error::DeadlineExceeded {
                 is_pending: self.pending.is_some(),
                 cause,
@@ -186,63 +177,65 @@ impl Client {
         let Some((number, command)) = self.pending.clone() else {
             return Ok(());
         };
-        match self.done(number, &command, deadline) {
-            Ok(answer) if !command.gets(&answer) => self.next = None,
-            Ok(_) | Err(Error::Refused { .. }) => {}
-            Err(why) => return Err(why),
+        match self.answered(number, &command, deadline) {
+            Ok(_) | Err(Error::Refused { .. }) => Ok(()),
+            // Nobody waits for what a reading would have told any more.
+            Err(Error::SessionInUse) if command.is_reading() => Ok(()),
+            Err(why) => Err(why),
         }
-        Ok(())
     }
 
     // The number of the next request, which no earlier client's request can take any more. A request that an earlier client
     // gave up may still be on its way under the number after the last one. So that number goes to a reading, which does no
     // harm: once it is answered, the other one has been done, or never will be.
     fn learn(&mut self, deadline: Deadline) -> Result<u64> {
+        let mut last = self.last_request(deadline)?;
         loop {
-            let number = self.last_request(deadline)? + 1;
-            if let Answer::Flag(_) = self.done(number, &Command::ReadFlag, deadline)? {
-                return Ok(number + 1);
+            match self.told(last + 1, &Command::ReadFlag, deadline)? {
+                Verdict::Answered(Answer::Flag(_)) => {
+                    self.next = Some(last + 2);
+                    return Ok(last + 2);
+                }
+                Verdict::Answered(_) => last = self.last_request(deadline)?,
+                // The other one has taken the number, or a later one.
+                Verdict::Refused { refusal, carried } => last = last_told(refusal, carried)?,
             }
         }
     }
 
     fn last_request(&mut self, deadline: Deadline) -> Result<u64> {
         match self.ask(0, &Command::ReadFlag, deadline)? {
-            Verdict::Refused {
-                refusal: Refusal::Stale,
-                carried,
-            } if carried > MAX_REQUEST => Err(Error::Malformed(Fault::TooLarge)),
-            Verdict::Refused {
-                refusal: Refusal::Stale,
-                carried,
-            } => Ok(carried),
-            Verdict::Refused { refusal, carried } => Err(Error::Refused { refusal, carried }),
+            Verdict::Refused { refusal, carried } => last_told(refusal, carried),
             // No node takes request 0.
             Verdict::Answered(_) => Err(Error::SessionInUse),
         }
     }
 
-    // The answer to a request, which is pending once it was sent until the node says what became of it.
-    fn done(&mut self, number: u64, command: &Command, deadline: Deadline) -> Result<Answer> {
-        let verdict = self.ask(number, command, deadline)?;
-        self.pending = None;
-        match verdict {
-            Verdict::Answered(answer) => {
+    // The answer to a request: one of the command's kind.
+    fn answered(&mut self, number: u64, command: &Command, deadline: Deadline) -> Result<Answer> {
+        match self.told(number, command, deadline)? {
+            Verdict::Answered(answer) if command.gets(&answer) => {
                 self.next = Some(number + 1);
                 Ok(answer)
             }
-            Verdict::Refused {
+            Verdict::Answered(_)
+            | Verdict::Refused {
                 refusal: Refusal::Stale | Refusal::Skip,
                 ..
-            } => {
-                self.next = None;
-                Err(Error::SessionInUse)
-            }
+            } => Err(Error::SessionInUse),
             Verdict::Refused { refusal, carried } => {
                 self.next = Some(number);
                 Err(Error::Refused { refusal, carried })
             }
         }
+    }
+
+    // What becomes of a request, which is pending once it was sent until the node says so.
+    fn told(&mut self, number: u64, command: &Command, deadline: Deadline) -> Result<Verdict> {
+        let verdict = self.ask(number, command, deadline)?;
+        self.pending = None;
+        self.next = None;
+        Ok(verdict)
     }
 
     // What the node says of a request: its answer, or a refusal that stands. Until then it is asked again.
@@ -312,5 +305,15 @@ impl Client {
         let address = self.addresses[self.place % self.addresses.len()];
         self.place += 1;
         Connection::open(&address, deadline)
+    }
+}
+
+// The session's last request, by a refusal that tells it.
+fn last_told(refusal: Refusal, carried: u64) -> Result<u64> {
+    match refusal {
+        Refusal::Stale if carried > MAX_REQUEST => Err(Error::Malformed(Fault::TooLarge)),
+        Refusal::Stale => Ok(carried),
+        Refusal::Skip => Err(Error::SessionInUse),
+        _ => Err(Error::Refused { refusal, carried }),
     }
 }

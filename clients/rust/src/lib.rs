@@ -13,6 +13,7 @@
 #![forbid(unsafe_code)]
 #![warn(missing_docs)]
 
+mod addresses;
 mod client;
 mod connection;
 mod error;
@@ -22,6 +23,7 @@ mod wire;
 #[cfg(test)]
 mod tests;
 
+pub use addresses::{Address, Addresses};
 pub use client::{connect, connect_timeout, Client, DEFAULT_TIMEOUT};
 pub use error::{Cause, Error, Fault, Refusal};
 pub use watch::{Change, Watch};

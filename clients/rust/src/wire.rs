@@ -65,6 +65,11 @@ impl Command {
         Ok(Command::Store(text.to_vec()))
     }
 
+    /// Whether it changes nothing.
+    pub(crate) fn is_reading(&self) -> bool {
+        !self.gets(&Answer::Stored)
+    }
+
     /// Whether the command gets such an answer.
     pub(crate) fn gets(&self, answer: &Answer) -> bool {
         match self {

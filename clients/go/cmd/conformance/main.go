@@ -16,7 +16,7 @@ import (
 	"sync"
 	"time"
 
-	"ccnode"
+	"ccnode.invalid/ccnode"
 )
 
 const (

@@ -9,10 +9,12 @@ from types import TracebackType
 from typing import Iterator, List, Optional, Sequence, Tuple, Type, Union
 
 from . import wire
-from .connection import Address, Connection, Deadline
+from .connection import Connection
+from .deadline import Deadline
 from .errors import ClientClosed, DeadlineExceeded, Fault, InvalidArgument, Malformed, Refusal, Refused, SessionInUse
+from .resolver import Address, Resolver
 from .watch import Watch
-from .wire import Answer, Command, Row, Told
+from .wire import Answer, Command, Refusing, Row, Told
 
 DEFAULT_TIMEOUT = 10.0
 
@@ -54,6 +56,7 @@ class Client:
         self._timeout = _seconds(timeout)
         self._turn = threading.Lock()
         self._connection: Optional[Connection] = None
+        self._resolver = Resolver()
         # Which address is tried next.
         self._place = 0
         self._is_closed = False
@@ -104,7 +107,7 @@ class Client:
 
     def watch(self, interval: float, *, timeout: Optional[float] = None) -> Watch:
         """Collects each `interval` seconds, and iterates over the rows that appeared or changed."""
-        return Watch(lambda: self.collect(timeout=timeout), interval)
+        return Watch(lambda: self.collect(timeout=timeout), _seconds(interval))
 
     def close(self) -> None:
         """Ends the client. A call that is under way in another thread raises ClientClosed; it may still be done."""
@@ -135,14 +138,10 @@ class Client:
                 self._settle(deadline)
                 number = self._learn(deadline) if self._next is None else self._next
                 is_asked = True
-                answer = self._done(number, command, deadline)
+                return self._answered(number, command, deadline)
             except DeadlineExceeded as error:
                 error.is_pending = is_asked and self._pending is not None
                 raise
-            if not isinstance(answer, command.answer):
-                self._next = None
-                raise SessionInUse(f"request {number} got an answer to another command")
-            return answer
 
     @contextmanager
     def _turn_by(self, deadline: Deadline) -> Iterator[None]:
@@ -165,11 +164,13 @@ class Client:
             return
         number, command = self._pending
         try:
-            answer = self._done(number, command, deadline)
+            self._answered(number, command, deadline)
         except Refused:
-            return
-        if not isinstance(answer, command.answer):
-            self._next = None
+            pass
+        except SessionInUse:
+            # Nobody waits for what a reading would have told any more.
+            if not command.is_reading:
+                raise
 
     def _learn(self, deadline: Deadline) -> int:
         """The number of the next request, which no earlier client's request can take any more.
@@ -177,34 +178,52 @@ class Client:
         A request that an earlier client gave up may still be on its way under the number after the last one. So that number
         goes to a reading, which does no harm: once it is answered, the other one has been done, or never will be.
         """
+        last = self._last_request(deadline)
         while True:
-            last = self._last_request(deadline)
-            answer = self._done(last + 1, wire.READ_FLAG, deadline)
-            if isinstance(answer, wire.Flag):
-                return last + 2
+            told = self._told(last + 1, wire.READ_FLAG, deadline)
+            if isinstance(told, Refusing):
+                # The other one has taken the number, or a later one.
+                last = self._stale(told)
+            elif isinstance(told.answer, wire.Flag):
+                self._next = number = last + 2
+                return number
+            else:
+                last = self._last_request(deadline)
 
     def _last_request(self, deadline: Deadline) -> int:
         told = self._ask(0, wire.READ_FLAG, deadline)
-        if not isinstance(told, wire.Refusing):
+        if not isinstance(told, Refusing):
             raise SessionInUse("request 0, which no node takes, was answered")
+        return self._stale(told)
+
+    def _stale(self, told: Refusing) -> int:
+        """The session's last request, by a refusal that tells it. Refused by any other."""
+        if told.refusal is Refusal.SKIP:
+            raise SessionInUse(f"request {told.request} isn't next: the session's last one is {told.carried}")
         if told.refusal is not Refusal.STALE:
             raise Refused(told.refusal, told.carried)
         if told.carried > wire.MAX_REQUEST:
             raise Malformed(Fault.TOO_LARGE)
         return told.carried
 
-    def _done(self, number: int, command: Command, deadline: Deadline) -> Answer:
-        """The answer to a request, which is pending once it was sent until the node says what became of it."""
-        told = self._ask(number, command, deadline)
-        self._pending = None
+    def _answered(self, number: int, command: Command, deadline: Deadline) -> Answer:
+        """The answer to a request: one of the command's kind."""
+        told = self._told(number, command, deadline)
         if isinstance(told, wire.Reply):
-            self._next = number + 1
-            return told.answer
+            if isinstance(told.answer, command.answer):
+                self._next = number + 1
+                return told.answer
+            raise SessionInUse(f"request {number} got an answer to another command")
         if told.refusal in (Refusal.STALE, Refusal.SKIP):
-            self._next = None
             raise SessionInUse(f"request {number} isn't next: the session's last one is {told.carried}")
         self._next = number
         raise Refused(told.refusal, told.carried)
+
+    def _told(self, number: int, command: Command, deadline: Deadline) -> Told:
+        """What becomes of a request, which is pending once it was sent until the node says so."""
+        told = self._ask(number, command, deadline)
+        self._pending = self._next = None
+        return told
 
     def _ask(self, number: int, command: Command, deadline: Deadline) -> Told:
         """What the node says of a request: its answer, or a refusal that stands. Until then it is asked again."""
@@ -213,7 +232,7 @@ class Client:
             cause: Exception
             try:
                 told = self._exchange(number, command, deadline.sooner(_ATTEMPT))
-                if not isinstance(told, wire.Refusing) or told.refusal not in _PASSING:
+                if not isinstance(told, Refusing) or told.refusal not in _PASSING:
                     return told
                 cause = Refused(told.refusal, told.carried)
             except OSError as broken:
@@ -236,7 +255,7 @@ class Client:
             if (told.session, told.request) != (self._session, number):
                 continue
             # A request that was taken before is answered again.
-            if not isinstance(told, wire.Refusing) or told.refusal is not Refusal.REPEAT:
+            if not isinstance(told, Refusing) or told.refusal is not Refusal.REPEAT:
                 return told
 
     def _connected(self, deadline: Deadline) -> Connection:
@@ -244,7 +263,7 @@ class Client:
         if connection is None:
             address = self._addresses[self._place % len(self._addresses)]
             self._place += 1
-            connection = self._connection = Connection(address, deadline)
+            connection = self._connection = Connection(self._resolver.find(address, deadline), deadline)
         if self._is_closed:
             raise ConnectionError("the client was closed")
         return connection
@@ -255,21 +274,26 @@ class Client:
             connection.close()
 
 
-def _seconds(timeout: float) -> float:
-    if not 0 < timeout <= threading.TIMEOUT_MAX:
-        raise InvalidArgument(f"a timeout is above 0 and at most {threading.TIMEOUT_MAX} seconds, not {timeout!r}")
-    return timeout
+def _seconds(seconds: float) -> float:
+    is_number = isinstance(seconds, (int, float)) and not isinstance(seconds, bool)
+    if not is_number or not 0 < seconds <= threading.TIMEOUT_MAX:
+        raise InvalidArgument(f"a time is above 0 and at most {threading.TIMEOUT_MAX} seconds, not {seconds!r}")
+    return seconds
 
 
 def _parse_all(addresses: Union[str, Sequence[str]]) -> List[Address]:
-    texts = [addresses] if isinstance(addresses, str) else list(addresses)
-    if not texts:
-        raise InvalidArgument("an address is needed")
-    return [_parse(text) for text in texts]
+    if not isinstance(addresses, (str, Sequence)) or not addresses:
+        raise InvalidArgument(f"an address is needed, or a list of some, not {addresses!r}")
+    return [_parse(text) for text in ([addresses] if isinstance(addresses, str) else addresses)]
 
 
 def _parse(text: str) -> Address:
-    host, colon, port = text.rpartition(":")
+    host, colon, port = text.rpartition(":") if isinstance(text, str) else ("", "", "")
     if not (host and colon and port.isascii() and port.isdigit() and 0 < int(port) < 65_536):
         raise InvalidArgument(f"an address is HOST:PORT, not {text!r}")
-    return host.strip("[]"), int(port)
+    host = host.strip("[]")
+    try:
+        host.encode("idna")
+    except UnicodeError as why:
+        raise InvalidArgument(f"{host!r} is no name of a host: {why}") from None
+    return host, int(port)

@@ -1,36 +1,19 @@
-"""One connection to a node, and until when a call waits."""
+"""One connection to a node."""
 
 from __future__ import annotations
 
 import socket
-import time
-from typing import Tuple
 
+from .deadline import Deadline
+from .resolver import Found
 from .wire import Told, decode_body, decode_length
-
-Address = Tuple[str, int]
-
-
-class Deadline:
-    """So many seconds from now on."""
-
-    def __init__(self, seconds: float) -> None:
-        self._end = time.monotonic() + seconds
-
-    def left(self) -> float:
-        """Seconds, at least 0."""
-        return max(0.0, self._end - time.monotonic())
-
-    def sooner(self, seconds: float) -> "Deadline":
-        """This deadline, or one in so many seconds, whichever is over first."""
-        return Deadline(min(self.left(), seconds))
 
 
 class Connection:
     """Frames to a node and from it. Whatever fails is an OSError, a timeout too."""
 
-    def __init__(self, address: Address, deadline: Deadline) -> None:
-        self._socket = socket.create_connection(address, timeout=_timeout(deadline))
+    def __init__(self, found: Found, deadline: Deadline) -> None:
+        self._socket = _connected(found, deadline)
         self._socket.setsockopt(socket.IPPROTO_TCP, socket.TCP_NODELAY, 1)
 
     def send(self, frame: bytes, deadline: Deadline) -> None:
@@ -58,6 +41,21 @@ class Connection:
                 raise ConnectionError("the node has closed the connection")
             data += piece
         return bytes(data)
+
+
+def _connected(found: Found, deadline: Deadline) -> socket.socket:
+    """A socket that is connected to the first of these addresses that takes it; each gets its share of the time."""
+    failure: OSError = ConnectionError("the name has no address")
+    for place, (family, kind, protocol, _, address) in enumerate(found):
+        made = socket.socket(family, kind, protocol)
+        try:
+            made.settimeout(_timeout(deadline.sooner(deadline.left() / (len(found) - place))))
+            made.connect(address)
+            return made
+        except OSError as why:
+            made.close()
+            failure = why
+    raise failure
 
 
 def _timeout(deadline: Deadline) -> float:

@@ -76,6 +76,11 @@ class Command:
     encoded: bytes
     answer: Type[Answer]
 
+    @property
+    def is_reading(self) -> bool:
+        """Whether it changes nothing."""
+        return self.answer is not Stored
+
 
 COLLECT = Command(b"\x02", Seen)
 READ_MAX = Command(b"\x04", Max)
@@ -85,11 +90,22 @@ READ_SET = Command(b"\x08", NumberSet)
 
 
 def store(text: Union[str, bytes]) -> Command:
-    """Text is taken as UTF-8."""
-    encoded = text.encode() if isinstance(text, str) else bytes(text)
+    """A str is taken as UTF-8."""
+    encoded = _text_bytes(text)
     if len(encoded) > MAX_TEXT:
         raise InvalidArgument(f"a text has {MAX_TEXT} bytes at most, not {len(encoded)}")
     return Command(bytes([1, len(encoded)]) + encoded, Stored)
+
+
+def _text_bytes(text: Union[str, bytes]) -> bytes:
+    if isinstance(text, (bytes, bytearray, memoryview)):
+        return bytes(text)
+    if not isinstance(text, str):
+        raise InvalidArgument(f"a text is a str or bytes, not {text!r}")
+    try:
+        return text.encode()
+    except UnicodeEncodeError as why:
+        raise InvalidArgument(f"a text that is no UTF-8: {why}") from None
 
 
 def write_max(number: int) -> Command:

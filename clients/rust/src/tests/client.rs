@@ -73,6 +73,29 @@ fn a_request_of_an_earlier_client_takes_no_write_with_it() {
 }
 
 #[test]
+fn a_number_that_another_command_has_taken_is_left_to_it() {
+    let node = ScriptedNode::new([
+        refused(0, Refusal::Stale, 4),
+        refused(5, Refusal::Stale, 5),
+        refused(6, Refusal::Stale, 8),
+        reply(9, FLAG_OFF),
+        reply(10, STORED),
+    ]);
+    client(&node).store("b").expect("stored");
+    let rest = asks_of(&[(6, READ_FLAG), (9, READ_FLAG), (10, STORE_B)]);
+    assert_eq!(asked(&node), rest);
+}
+
+#[test]
+fn a_number_beyond_the_next_one_is_of_another_session() {
+    let node = ScriptedNode::new([refused(0, Refusal::Stale, 4), refused(5, Refusal::Skip, 2)]);
+    assert!(matches!(
+        connect(node.address, SESSION),
+        Err(Error::SessionInUse)
+    ));
+}
+
+#[test]
 fn a_broken_connection_leaves_the_number() {
     let node = node([Step::Close, reply(6, STORED)]);
     client(&node).store("a").expect("stored");
@@ -143,6 +166,49 @@ fn a_late_request_that_is_refused_leaves_its_number() {
     client.store("b").expect("stored");
     let asks = [(6, ADD_NINE), (6, ADD_NINE), (6, STORE_B)];
     assert_eq!(asked(&node), asks_of(&asks));
+}
+
+#[test]
+fn a_late_reading_whose_number_another_command_has_taken_is_forgotten() {
+    for told in [refused(6, Refusal::Stale, 6), reply(6, STORED)] {
+        let steps = [Step::Silence, told].into_iter().chain(learned(6));
+        let node = node(steps.chain([reply(8, STORED)]));
+        let mut client = client(&node);
+        client.set_timeout(SHORT);
+        assert!(is_late(client.collect().map(drop)));
+        client.set_timeout(LONG);
+        client.store("b").expect("stored");
+        let asks = [
+            (6, COLLECT),
+            (6, COLLECT),
+            (0, READ_FLAG),
+            (7, READ_FLAG),
+            (8, STORE_B),
+        ];
+        assert_eq!(asked(&node), asks_of(&asks));
+    }
+}
+
+#[test]
+fn a_late_write_whose_number_another_command_has_taken_is_told() {
+    for told in [refused(6, Refusal::Stale, 6), reply(6, FLAG_OFF)] {
+        let steps = [Step::Silence, told].into_iter().chain(learned(6));
+        let node = node(steps.chain([reply(8, STORED)]));
+        let mut client = client(&node);
+        client.set_timeout(SHORT);
+        assert!(is_late(client.store("a")));
+        client.set_timeout(LONG);
+        assert!(matches!(client.store("b"), Err(Error::SessionInUse)));
+        client.store("b").expect("stored");
+        let asks = [
+            (6, STORE_A),
+            (6, STORE_A),
+            (0, READ_FLAG),
+            (7, READ_FLAG),
+            (8, STORE_B),
+        ];
+        assert_eq!(asked(&node), asks_of(&asks));
+    }
 }
 
 #[test]
