@@ -26,6 +26,8 @@ mod pages;
 #[cfg(test)]
 mod ports;
 #[cfg(test)]
+mod repeating;
+#[cfg(test)]
 mod retiring;
 #[cfg(test)]
 mod routing;
