@@ -6,5 +6,6 @@ mod Putting
 mod Flushing
 mod OneNode
 mod NodeOrFault
+mod Reopened
 pub mod Advancing
 pub mod MovingRuns

@@ -5,3 +5,4 @@ pub mod Standing
 pub mod Flushing
 pub mod Lives
 pub mod Moving
+pub mod Reopening
