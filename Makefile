@@ -185,6 +185,11 @@ power-cut:
 	@$(BUILD) ccnode
 	@python3 tools/power_cut.py crates/ccnode/out/ccnode $(TIMES)
 
+# Runs nodes whose standard error is a pipe that nobody reads: they go on, and end where the disk is full. A minute and a half.
+full-pipe:
+	@$(BUILD) ccnode
+	@python3 tools/full_pipe.py crates/ccnode/out/ccnode
+
 # Sends the frames of docs/FORMATS.md to nodes on loopback, and compares what comes back: seconds.
 page-bytes:
 	@$(BUILD) ccnode
