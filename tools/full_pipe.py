@@ -66,6 +66,7 @@ def flap(program, level, left):
         cluster.start(1, error=pipe.writer)
         for node in (2, 3):
             cluster.start(node)
+        cluster.wait_until_ready(PATIENCE)
         session, answers = Session(cluster.address(1), 7), 0
         end, away = time.monotonic() + FLAPPING, 2
         while time.monotonic() < end:
