@@ -190,6 +190,18 @@ full-pipe:
 	@$(BUILD) ccnode
 	@python3 tools/full_pipe.py crates/ccnode/out/ccnode
 
+# Takes all places of a node, and those that are spare for the operator, by connections that drip: the operator gets in. A
+# minute.
+operator-places:
+	@$(BUILD) ccnode
+	@python3 tools/operator_places.py crates/ccnode/out/ccnode
+
+# Has 1,400 clients read slowly what a node doesn't listen to any more, and counts its sockets; and has its disk get full
+# meanwhile. Two minutes.
+slow-readers:
+	@$(BUILD) ccnode
+	@python3 tools/slow_readers.py crates/ccnode/out/ccnode
+
 # Sends the frames of docs/FORMATS.md to nodes on loopback, and compares what comes back: seconds.
 page-bytes:
 	@$(BUILD) ccnode
