@@ -2,7 +2,7 @@
 .PHONY: try run install test check bench edits standing-edits must-not-compile refused-growths failing-calls kill-files \
     cluster load kill-cluster soak soak-absent hostile closed-streams dead-member refused-flood stray-frames many-sessions \
     stale-collects costs worked-rows trusted links beside look look-picture hostile-status mistakes deb test-systemd \
-    tls-cluster clients page-bytes
+    tls-cluster clients page-bytes one-session half-close idle-cluster power-cut slow-readers full-pipe operator-places
 
 # Plays the script that ships with the program before any proof.
 try:
@@ -25,7 +25,8 @@ PREFIX = /usr/local
 PROGRAM = crates/ccnode/out/ccnode
 SHARE_FOLDER = $(DESTDIR)$(PREFIX)/share
 ZSH_COMPLETIONS = $(PREFIX)/share/zsh/site-functions
-PAGES = docs/RUN.md docs/status-page.png docs/SECURITY.md docs/FORMATS.md docs/SERVER.md docs/DURABILITY.md CHANGELOG.md
+PAGES = README.md docs/RUN.md docs/PLAY.md docs/status-page.png docs/SECURITY.md docs/FORMATS.md docs/SERVER.md \
+    docs/DURABILITY.md CHANGELOG.md
 install:
 	install -D $(PROGRAM) $(DESTDIR)$(PREFIX)/bin/ccnode
 	install -D -m 644 docs/ccnode.1 $(SHARE_FOLDER)/man/man1/ccnode.1
@@ -38,7 +39,7 @@ install:
 	install -D -m 644 packaging/completions/ccnode.fish $(SHARE_FOLDER)/fish/vendor_completions.d/ccnode.fish
 	install -D -m 644 packaging/completions/_ccnode $(DESTDIR)$(ZSH_COMPLETIONS)/_ccnode
 	install -d $(SHARE_FOLDER)/doc/ccnode/examples/tls
-	install -m 644 $(PAGES) $(SHARE_FOLDER)/doc/ccnode/
+	python3 packaging/pages.py $(SHARE_FOLDER)/doc/ccnode $(PAGES)
 	install -m 644 packaging/deb/examples/* packaging/prometheus/* examples/client.py $(SHARE_FOLDER)/doc/ccnode/examples/
 	install -m 755 packaging/tls/certificates.sh packaging/tls/configuration.sh $(SHARE_FOLDER)/doc/ccnode/examples/tls/
 
@@ -159,6 +160,47 @@ clients:
 	@$(BUILD) ccnode
 	@python3 clients/languages.py
 	@python3 clients/conformance.py crates/ccnode/out/ccnode --operations $(OPERATIONS) --kills $(KILLS) --share $(SHARE)
+
+# Has two clients use one session at once, by `ccnode ask` and by the Python library, through proxies that delay what they
+# send: nobody may be told `Stored` for what wasn't done. A minute.
+one-session:
+	@$(BUILD) ccnode
+	@python3 tools/one_session.py crates/ccnode/out/ccnode
+
+# Has clients shut down their sending half behind an ask, a repeat and a new one: each gets its answer, and then the end. Half
+# a minute.
+half-close:
+	@$(BUILD) ccnode
+	@python3 tools/half_close.py crates/ccnode/out/ccnode
+
+# Kills two of three idle nodes, and looks whether the third one notices, though nobody asks it anything: half a minute.
+idle-cluster:
+	@$(BUILD) ccnode
+	@python3 tools/idle_cluster.py crates/ccnode/out/ccnode
+
+# Has a sync of a node fail once, starts it again, and gives it what a power cut leaves: what it answered has to be there.
+# Three minutes; TIMES=5 does more. It needs a C compiler.
+power-cut: TIMES = 2
+power-cut:
+	@$(BUILD) ccnode
+	@python3 tools/power_cut.py crates/ccnode/out/ccnode $(TIMES)
+
+# Runs nodes whose standard error is a pipe that nobody reads: they go on, and end where the disk is full. A minute and a half.
+full-pipe:
+	@$(BUILD) ccnode
+	@python3 tools/full_pipe.py crates/ccnode/out/ccnode
+
+# Takes all places of a node, and those that are spare for the operator, by connections that drip: the operator gets in. A
+# minute.
+operator-places:
+	@$(BUILD) ccnode
+	@python3 tools/operator_places.py crates/ccnode/out/ccnode
+
+# Has 1,400 clients read slowly what a node doesn't listen to any more, and counts its sockets; and has its disk get full
+# meanwhile. Two minutes.
+slow-readers:
+	@$(BUILD) ccnode
+	@python3 tools/slow_readers.py crates/ccnode/out/ccnode
 
 # Sends the frames of docs/FORMATS.md to nodes on loopback, and compares what comes back: seconds.
 page-bytes:

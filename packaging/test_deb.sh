@@ -90,7 +90,7 @@ look_at_files() {
     inside ccnode --help | head -3
     inside stat -c '%U %a %n' /var/lib/ccnode /etc/ccnode
     inside getent passwd ccnode
-    inside test -f /usr/share/man/man1/ccnode.1.gz
+    inside test -f /usr/share/man/man1/ccnode.1.gz -a -f /usr/share/doc/ccnode/README.md
     inside dpkg --verify ccnode
 }
 

@@ -105,13 +105,15 @@ class Cluster:
         peers = ",".join(f"{peer}={self.way(node, peer)}" for peer in self.nodes if peer != node)
         return ["run", f"node-{node}", "--listen", self.address(node), *(["--peers", peers] if peers else [])]
 
-    def start(self, node, closed=(), blocks=None):
-        """Starts a node, with these of its standard streams closed, and where its files may have so many blocks alone."""
+    def start(self, node, closed=(), blocks=None, output=None, error=None):
+        """Starts a node, with these of its standard streams closed, and where its files may have so many blocks alone. What
+        it prints goes to its log, or to these descriptors."""
         settings = {**os.environ, "LD_PRELOAD": self.preloads[node]} if node in self.preloads else None
         with open(self.folder / f"log-{node}", "ab") as log:
             self.running[node] = subprocess.Popen(
                 limited([self.program, *self.run_words(node)], closed, blocks), cwd=self.folder,
-                stdin=subprocess.DEVNULL, stdout=log, stderr=log, env=settings, start_new_session=True,
+                stdin=subprocess.DEVNULL, stdout=output or log, stderr=error or log, env=settings,
+                start_new_session=True,
             )
 
     def log(self, node):

@@ -46,7 +46,22 @@ install_files() {
     install -D -m 644 "$here/copyright" "$root/usr/share/doc/ccnode/copyright"
     install -D -m 644 "$here/changelog" "$root/usr/share/doc/ccnode/changelog.Debian"
     mv "$root/usr/share/doc/ccnode/CHANGELOG.md" "$root/usr/share/doc/ccnode/changelog"
+    sed -i 's,](CHANGELOG\.md),](changelog.gz),g' "$root"/usr/share/doc/ccnode/*.md
     gzip -9n "$root"/usr/share/doc/ccnode/changelog* "$root/usr/share/man/man1/ccnode.1"
+    look_at_links
+}
+
+# Each link of the pages leads to a file of the package.
+look_at_links() {
+    local target
+    (cd "$root/usr/share/doc/ccnode" && cat ./*.md <(zcat changelog.gz)) | grep -o '][(][^)#]*' | cut -c 3- |
+        grep -v '://' | sort -u > "$staging/links"
+    while read -r target; do
+        if [ ! -e "$root/usr/share/doc/ccnode/$target" ]; then
+            echo "a page of the package leads to $target, which isn't there" >&2
+            exit 1
+        fi
+    done < "$staging/links"
 }
 
 write_control() {
