@@ -8,6 +8,7 @@ mod clients;
 mod duties;
 mod frames;
 mod incoming;
+mod retirements;
 mod routes;
 mod speakers;
 mod standings;
