@@ -182,7 +182,7 @@ class Mistakes:
         self.compare(["ask", address, "7", "collect", *quick], 1, "no answer",
                      f"ccnode: {address} took the request, but too few members answer")
         reason = self.cluster.reason(1)
-        self.compare(["ask", address, "7", "collect", *quick, "--status", self.cluster.page(1)], 1, "no answer",
+        self.compare(["ask", address, "8", "collect", *quick, "--status", self.cluster.page(1)], 1, "no answer",
                      f"ccnode: {reason}")
         self.compare(["status", address], 1, "no answer", f"ccnode: {address} isn't where a node tells its status")
 
@@ -212,7 +212,7 @@ class Mistakes:
         self.cluster.start(2)
         wait_for(self.cluster.address(2))
         time.sleep(2)
-        self.compare(["ask", address, "7", "collect"], 0, "Seen []", "")
+        self.compare(["ask", address, "9", "collect"], 0, "Seen []", "")
         self.compare(["retire", address, "1"], 1, "refused 32 Itself",
                      f"ccnode: that is the node at {address} itself: `ccnode leave {address}` has it leave")
         self.compare(["retire", address, "2"], 1, "refused 33 Alive",

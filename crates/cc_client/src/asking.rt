@@ -12,7 +12,7 @@ use cc_protocol::{Client, Heard, Incoming, Stage, Step};
 use std::alloc::Global;
 use std::io;
 use std::io::Write;
-use std::net::{Net, TcpStream};
+use std::net::{Net, SocketAddr, TcpStream};
 use std::time::Clock;
 
 /// Has a command done: it asks, again where the node is busy or the connection breaks, or hasn't joined and the order waits
@@ -98,13 +98,22 @@ impl Asking {
     ) -> Option<Ended> {
         match connect(rt, &order.address, deadline) {
             Ok(stream) => {
-                self.silence = Silence::Mute(order.address);
+                self.note_connection(order.address);
                 self.converse(rt, alloc, &stream, deadline)
             }
             Err(silence) => {
+                // A try that the deadline cut short tells nothing new.
+                deadline.left(rt)?;
                 self.silence = silence;
                 None
             }
+        }
+    }
+
+    // Somebody listens there. What was sent before, over another connection, may still be answered.
+    fn note_connection(&mut self, address: SocketAddr) {
+        if matches!(self.silence, Silence::Closed(_)) {
+            self.silence = Silence::Mute(address);
         }
     }
 

@@ -7,7 +7,7 @@ use crate::silence::{Silence, Told};
 use cc_frames::Frame;
 use cc_messages::Refusal;
 use cc_orders::{LeaveOrder, RetireOrder};
-use cc_protocol::{Incoming, Objection, Outcome, Retirement, outcome_of, probe_frame};
+use cc_protocol::{Incoming, Lefts, Objection, Outcome, Retirement, outcome_of, probe_frame};
 use std::alloc::Global;
 use std::io;
 use std::io::Write;
@@ -98,19 +98,19 @@ fn print_objection<W: Write>(
     Ok(Told::refused(Some(advice)))
 }
 
-// What the operator asks of a node. It is sent twice, since only a refusal is answered.
+// What the operator asks of a node, by this frame. It is sent twice, since only a refusal is answered.
 #[derive(Drop)]
 enum Request {
     Leave,
-    // By this frame. Behind the second one a probe is sent.
     Retire(Frame),
 }
 
 // What the operator has heard so far.
 #[derive(Clone, Copy)]
-enum Watch {
-    Leave,
-    Retirement(Retirement),
+struct Watch {
+    // Of a retirement. None where the node is to leave.
+    heard: Option<Retirement>,
+    is_probed: bool,
 }
 
 impl Request {
@@ -137,7 +137,9 @@ impl Request {
     ) -> Option<Outcome> {
         let mut incoming = Incoming::new(alloc, stream).ok()?;
         let outcome = match self.send(alloc, stream) {
-            Some(()) => self.watch().hear_all(rt, stream, &mut incoming, deadline),
+            Some(()) => self
+                .watch()
+                .hear_all(rt, alloc, stream, &mut incoming, deadline),
             None => None,
         };
         drop(incoming);
@@ -146,38 +148,35 @@ impl Request {
 
     fn send(&self, alloc: Global, stream: &TcpStream) -> Option<()> {
         match self {
-            Request::Leave => {
-                send(alloc, stream, &Frame::Leave)?;
-                send(alloc, stream, &Frame::Leave)
-            }
-            Request::Retire(frame) => {
-                send(alloc, stream, frame)?;
-                send(alloc, stream, frame)?;
-                send_probe(alloc, stream)
-            }
+            Request::Leave => send_twice(alloc, stream, &Frame::Leave),
+            Request::Retire(frame) => send_twice(alloc, stream, frame),
         }
     }
 
     fn watch(&self) -> Watch {
-        match self {
-            Request::Leave => Watch::Leave,
-            Request::Retire(_) => Watch::Retirement(Retirement::new()),
+        let heard = match self {
+            Request::Leave => None,
+            Request::Retire(_) => Some(Retirement::new()),
+        };
+        Watch {
+            heard,
+            is_probed: false,
         }
     }
 }
 
-fn send_probe(alloc: Global, stream: &TcpStream) -> Option<()> {
-    let probe = probe_frame();
-    let sent = send(alloc, stream, &probe);
-    drop(probe);
-    sent
+fn send_twice(alloc: Global, stream: &TcpStream, frame: &Frame) -> Option<()> {
+    send(alloc, stream, frame)?;
+    send(alloc, stream, frame)
 }
 
 impl Watch {
-    // Takes frames in until one tells what the request came to, or none comes any more.
+    // Takes frames in until one tells what the request came to, or none comes any more. Of a retirement the first refusal as
+    // Left leaves open whether it is the node that has left: then the probe is sent.
     fn hear_all<R: Clock>(
         &mut self,
         rt: &R,
+        alloc: Global,
         stream: &TcpStream,
         incoming: &mut Incoming<&TcpStream>,
         deadline: &Deadline,
@@ -193,21 +192,39 @@ impl Watch {
             if outcome.is_some() {
                 return outcome;
             }
+            if self.is_open() {
+                self.probe(alloc, stream);
+            }
         }
         None
     }
 
     fn hear(&mut self, frame: &Frame) -> Option<Outcome> {
-        match self {
-            Watch::Leave => outcome_of(frame),
-            Watch::Retirement(retirement) => retirement.hear(frame),
+        let Some(mut heard) = self.heard else {
+            return outcome_of(frame);
+        };
+        let outcome = heard.hear(frame);
+        self.heard = Some(heard);
+        outcome
+    }
+
+    // Whether a request was refused as Left, and nobody asked whose that is.
+    fn is_open(&self) -> bool {
+        match self.heard {
+            Some(heard) => heard.lefts != Lefts::Neither && !self.is_probed,
+            None => false,
         }
     }
 
+    // Where that fails the connection is at its end, which is heard next.
+    fn probe(&mut self, alloc: Global, stream: &TcpStream) {
+        self.is_probed = true;
+        let probe = probe_frame();
+        let _ = send(alloc, stream, &probe);
+        drop(probe);
+    }
+
     fn end(&self) -> Option<Outcome> {
-        match self {
-            Watch::Leave => None,
-            Watch::Retirement(retirement) => retirement.end(),
-        }
+        self.heard?.end()
     }
 }

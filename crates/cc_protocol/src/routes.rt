@@ -161,7 +161,8 @@ impl Routes {
     pub fn end(&mut self, ticket: u64)
         ensures { self.new ≡ ended ticket self.old }
     {
-        remove_routes(&mut self.routes, ticket);
+        let routes = &mut self.routes;
+        remove_routes(routes, ticket);
     }
 
     /// A connection is closed, and with it go the routes to it.

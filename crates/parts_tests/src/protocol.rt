@@ -10,6 +10,7 @@ mod frames;
 mod incoming;
 mod last_asks;
 mod objecting;
+mod retirements;
 mod routes;
 mod speakers;
 mod standings;
