@@ -108,21 +108,24 @@ const ROWS: &str = concat!(
     r#"{"node":2,"number":"1","text_base64":"//4=","max":"0","flag":false,"set":[]}]"#
 );
 
-fn rows<R: Abort + AllocGlobal>(rt: &R) -> View {
-    let mut great = row(1, b"%ff%fe");
-    great.value.max = 9_007_199_254_740_993;
+#[tactic(auto, using(cc_views::specs::MergeLaws::merge_row_is_no_larger))]
+fn view_of<R: Abort + AllocGlobal>(rt: &R, first: Row, second: Row) -> View {
     let mut view = no_rows(rt);
-    view.push(Row {
-        number: u64::MAX,
-        ..great
-    });
-    view.push(row(2, b"\xff\xfe"));
+    view.merge_row(first);
+    view.merge_row(second);
     view
+}
+
+fn greatest_row() -> Row {
+    let mut row = row(1, b"%ff%fe");
+    row.number = u64::MAX;
+    row.value.max = 9_007_199_254_740_993;
+    row
 }
 
 #[test]
 fn rows_are_json_without_loss(rt: HostRuntime) {
-    let view = rows(&rt);
+    let view = view_of(&rt, greatest_row(), row(2, b"\xff\xfe"));
     let shown = rows_of(rt.alloc(), &view).expect(&rt, "rows");
     let text = serde_json::to_string(rt.alloc(), &shown).expect(&rt, "a text");
     assert!(rt; text.as_str() == ROWS, "{text}");
