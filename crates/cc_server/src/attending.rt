@@ -178,10 +178,7 @@ fn serve_in<R: Wait + Clock + Log, H: Hooks, L: Life, Q: Lane>(
             over,
         );
     }
-    context
-        .shared
-        .connections
-        .end(context.rt, admitted.ticket);
+    context.shared.connections.end(context.rt, admitted.ticket);
     drop(connection);
 }
 

@@ -17,8 +17,7 @@ use cc_intake::{Accepted, Hooks, Lane, Life, Refused, Share, Source};
 use cc_messages::{Event, Refusal};
 use cc_ops::Asked;
 use cc_protocol::{
-    Duty, Ending, Incoming, Input, Objection, event_of, objection_frame,
-    objection_to,
+    Duty, Ending, Incoming, Input, Objection, event_of, objection_frame, objection_to,
 };
 use cc_views::NodeId;
 use log::{Log, debug};
@@ -167,7 +166,7 @@ impl<R: Wait + Log, I: Input, S: Admitting, D: Replies, F: Flushed> Caller<'_, R
                 false
             }
             Err(refused) => {
-                if !is_beat(event, refused.why) {
+                if is_counted(event, refused.why) {
                     self.shared.gauges.refuse(refused.why);
                 }
                 self.admission.release(self.rt);
@@ -300,9 +299,14 @@ fn numbered_ask(event: &Event) -> Option<Asked> {
     }
 }
 
-// Whether it is no more than a sign of life: an acknowledgement that tells nothing new, which counts as no refusal.
-fn is_beat(event: &Event, why: Refusal) -> bool {
-    matches!((event, why), (Event::Acked { .. }, Refusal::NothingToAck))
+// Whether it counts as a refusal: an acknowledgement that tells nothing new is a sign of life, and an ask under number 0 asks for
+// its session's last request.
+fn is_counted(event: &Event, why: Refusal) -> bool {
+    match (event, why) {
+        (Event::Acked { .. }, Refusal::NothingToAck) => false,
+        (Event::Ask { request: 0, .. }, Refusal::Stale(_)) => false,
+        _ => true,
+    }
 }
 
 // What became of an ask that is refused for that.

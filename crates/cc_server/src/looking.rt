@@ -76,13 +76,7 @@ fn pass_link<R: Wait>(rt: &R, core: &Core, shared: &Shared, link: &LinkRow) -> P
 
 // Has a peer hear a sign of life, tells the channel to it whether it is behind, and notes that it is taken for absent. A peer that
 // was heard once and is silent is behind: its connection may be one that waits long until it sends again.
-fn note_passed<R: Wait>(
-    rt: &R,
-    shared: &Shared,
-    link: &LinkRow,
-    passed: Passed,
-    seconds: u64,
-) {
+fn note_passed<R: Wait>(rt: &R, shared: &Shared, link: &LinkRow, passed: Passed, seconds: u64) {
     let peer = link.peer;
     if let Some(channel) = shared.channel_to(peer) {
         channel.beat(rt, link.heard);

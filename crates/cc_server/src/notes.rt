@@ -176,7 +176,10 @@ pub enum Notice<'a> {
         from: SocketAddr,
     },
     /// The file of the peers isn't taken, since one line isn't as it should be, or two are of one node, or it can't be read.
-    NotTaken { file: &'a str, why: &'a str },
+    NotTaken {
+        file: &'a str,
+        why: &'a str,
+    },
 }
 
 impl Notice<'_> {
@@ -188,9 +191,7 @@ impl Notice<'_> {
             | Notice::Elsewhere(..)
             | Notice::Unknown(_)
             | Notice::Asked { .. } => Level::Info,
-            Notice::Unreachable(_)
-            | Notice::Unlisted(_)
-            | Notice::NotTaken { .. } => Level::Warn,
+            Notice::Unreachable(_) | Notice::Unlisted(_) | Notice::NotTaken { .. } => Level::Warn,
         }
     }
 }
@@ -238,7 +239,11 @@ fn print_departure<W: fmt::Write>(
     match departure {
         Departure::Leave => write!(f, "was told from {from} that it leaves"),
         Departure::Retire(node) => {
-            write!(f, "was told from {from} that node {} is retired", node.number())
+            write!(
+                f,
+                "was told from {from} that node {} is retired",
+                node.number()
+            )
         }
     }
 }

@@ -223,12 +223,19 @@ impl Shared {
     pub fn is_silent<R: Wait>(&self, rt: &R, peer: NodeId) -> bool {
         let has_speaker = self.connections.has_speaker(rt, peer);
         let heard = self.channel_to(peer).and_then(PeerChannel::last_heard);
-        is_silent(has_speaker, heard, self.monotonic_now.load(Ordering::SeqCst))
+        is_silent(
+            has_speaker,
+            heard,
+            self.monotonic_now.load(Ordering::SeqCst),
+        )
     }
 
     /// A moment of the clock that never goes back, in milliseconds since 1970.
     pub fn since_1970(&self, monotonic: u64) -> u64 {
-        let age = self.monotonic_now.load(Ordering::SeqCst).saturating_sub(monotonic);
+        let age = self
+            .monotonic_now
+            .load(Ordering::SeqCst)
+            .saturating_sub(monotonic);
         self.now().saturating_sub(age)
     }
 

@@ -41,7 +41,9 @@ impl<'a, R: Clock> TimedInput<'a, R> {
 
     // Has so long pass from now on.
     fn wait_for(&mut self, duration: Duration) {
-        self.due = Instant::now(self.rt).ok().and_then(|now| now.checked_add(duration));
+        self.due = Instant::now(self.rt)
+            .ok()
+            .and_then(|now| now.checked_add(duration));
     }
 
     // How long the next read may wait. None where the time is over, or the clock can't be read.
