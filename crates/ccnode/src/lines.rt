@@ -35,7 +35,9 @@ impl Lines {
         let dropped = Arc::new(alloc, AtomicU64::new(0)).or(Err(AllocError))?;
         let counted = Arc::try_clone(&dropped)?;
         let machine = *rt;
-        thread::spawn(rt, move || write_lines(&machine, &from, &done, &counted)).or(Err(AllocError))?;
+        thread::spawn(rt, move || write_lines(&machine, &from, &done, &counted)).or(Err(
+            AllocError,
+        ))?;
         Ok(Lines {
             alloc,
             to,
@@ -79,7 +81,9 @@ fn write_lines<R: Wait + Eprint>(
         drop(line);
         let count = dropped.swap(0, Ordering::SeqCst);
         if count > 0 {
-            let _ = eprintln!(rt; "[WARN  ccnode::lines] {count} notes were dropped, since nobody read them in time");
+            let _ = eprintln!(rt;
+                "[WARN  ccnode::lines] {count} notes were dropped, since nobody read them in time"
+            );
         }
     }
     let _ = done.try_send(rt, ());

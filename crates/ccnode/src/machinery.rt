@@ -18,14 +18,5 @@ pub trait Machinery: AllocGlobal
 
 impl<R> Machinery for R
 where
-    R: AllocGlobal
-        + Print
-        + Eprint
-        + Threads
-        + Wait
-        + Clock
-        + Copy
-        + Send
-        + Drop
-        + 'static,
+    R: AllocGlobal + Print + Eprint + Threads + Wait + Clock + Copy + Send + Drop + 'static,
 {}

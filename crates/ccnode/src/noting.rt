@@ -10,11 +10,11 @@ use log::{Level, Line, Log, Logged, Metadata, Record};
 use std::alloc::{Allocator, Global};
 use std::fmt::Display;
 use std::fs::{Files, Metadata as Attributes, OpenOptions};
-use std::{fmt, io};
 use std::net::{Net, SocketAddr};
 use std::sync::Wait;
 use std::thread::Threads;
 use std::time::{Clock, Duration};
+use std::{fmt, io};
 
 /// A runtime, and a log on its standard error, for which no caller waits. It passes on each call of the runtime that a node makes: `Logged` alone makes no
 /// connection within a time.

@@ -14,14 +14,13 @@ use cc_views::NodeId;
 use crossbeam_channel::bounded;
 use log::Log;
 use std::alloc::AllocError;
-use std::fs;
 use std::fs::{File, Files};
 use std::net::{Net, TcpListener, TcpStream};
 use std::process::ExitCode;
 use std::sync::Wait;
-use std::thread;
 use std::thread::Threads;
 use std::time::{Clock, Duration};
+use std::{fs, thread};
 
 /// Runs the node of a folder, on a machine with a log of its own: the status of that.
 pub fn run<R, N>(
