@@ -71,7 +71,13 @@ fn two_members_go_on_and_the_third_comes_late(rt: HostRuntime) {
 // After a second node 1 is told that node 3 is dead. The store needs all three members as it begins.
 fn store_and_retire_late<R>(rt: &R, alloc: Global, one: SocketAddr)
 where
-    R: Abort + Net<Listener = TcpListener, Stream = TcpStream> + Threads + Wait + Clock + Sync,
+    R: Abort
+        + AllocGlobal
+        + Net<Listener = TcpListener, Stream = TcpStream>
+        + Threads
+        + Wait
+        + Clock
+        + Sync,
 {
     let store = order(rt, one, &["store", "a"], 20);
     let retire = retirement(rt, one, 3, false);

@@ -41,7 +41,7 @@ where
     let told = load_nodes(rt, alloc, order, &mut output);
     let is_whole = output
         .as_slice()
-        .ends_with(b"\"lost\":0,\"ended\":0,\"refused\":null}\n");
+        .ends_with(b"\"lost\":0,\"ended\":0,\"refused\":null,\"in_use\":0}\n");
     is_whole && matches!(told, Ok(it) if it == DONE)
 }
 
