@@ -135,8 +135,8 @@ class PowerCut:
             self.cluster.running[1].wait(UNTIL_FAULT)
         except subprocess.TimeoutExpired:
             raise NoAnswer(f"no sync failed in {UNTIL_FAULT} s") from None
-        if "Failed" not in (said := self.cluster.log(1).strip().splitlines()[-1]):
-            raise NoAnswer(f"node 1 ended otherwise: {said}")
+        if "Failed" not in (said := self.cluster.log(1)):
+            raise NoAnswer(f"node 1 ended otherwise: {said.strip().splitlines()[-1]}")
         self.cluster.kill(1)
 
     def wait_for_answers(self):
