@@ -168,7 +168,8 @@ class PowerCut:
                 session.close()
             for of, count in self.told.writes.items():
                 if numbers.get(of, 0) < count:
-                    self.told.faults.append(f"node {node} shows {numbers.get(of, 0)} writes of node {of}, {count} were answered")
+                    shown = f"node {node} shows {numbers.get(of, 0)} writes of node {of}"
+                    self.told.faults.append(f"{shown}, {count} were answered")
 
 
 def run_and_cut(program, fails):

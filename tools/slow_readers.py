@@ -149,9 +149,8 @@ def count_sockets(verdicts, program):
             silent = [socket.create_connection(readers.address, timeout=10) for _ in range(SILENT)]
             time.sleep(1)
             most, left = cluster.sockets(), len(readers.reading)
-            verdicts.add(
-                most <= MOST + OWN, f"{left} clients that read slowly and {SILENT} that are silent: {most} sockets of {MOST + OWN}"
-            )
+            what = f"{left} clients that read slowly and {SILENT} that are silent: {most} sockets of {MOST + OWN}"
+            verdicts.add(most <= MOST + OWN, what)
             for connection in silent:
                 connection.close()
             readers.step()
