@@ -108,7 +108,7 @@ def disk_full(program, left, stream):
         answered = time.monotonic()
         while process.poll() is None:
             try:
-                session.ask(["store", "a"], END / 4)
+                session.ask(["store", "a"], END / 10)
                 answered = time.monotonic()
             except NoAnswer:
                 if time.monotonic() - answered > LONGEST:

@@ -135,8 +135,8 @@ class PowerCut:
             self.cluster.running[1].wait(UNTIL_FAULT)
         except subprocess.TimeoutExpired:
             raise NoAnswer(f"no sync failed in {UNTIL_FAULT} s") from None
-        if "Failed" not in (said := self.cluster.log(1).strip().splitlines()[-1]):
-            raise NoAnswer(f"node 1 ended otherwise: {said}")
+        if "Failed" not in (said := self.cluster.log(1)):
+            raise NoAnswer(f"node 1 ended otherwise: {said.strip().splitlines()[-1]}")
         self.cluster.kill(1)
 
     def wait_for_answers(self):
@@ -168,7 +168,8 @@ class PowerCut:
                 session.close()
             for of, count in self.told.writes.items():
                 if numbers.get(of, 0) < count:
-                    self.told.faults.append(f"node {node} shows {numbers.get(of, 0)} writes of node {of}, {count} were answered")
+                    shown = f"node {node} shows {numbers.get(of, 0)} writes of node {of}"
+                    self.told.faults.append(f"{shown}, {count} were answered")
 
 
 def run_and_cut(program, fails):

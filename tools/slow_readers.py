@@ -3,11 +3,12 @@
 
 usage: slow_readers.py PROGRAM
 
-A node's view is made long by a forged store of 248 nodes. Each of 1,400 clients repeats the last requests of some sessions,
+A node's view is made long by a forged store of 248 nodes. Each of 30 clients repeats the last requests of some sessions,
 and then sends bytes that are no frame: the node reads no more of it, and has answers left to write, which the client reads
-a bit at a time. The node may have 1,032 connections at once, and has to answer another client meanwhile; and where its disk
-is full, it has to end within two seconds while such clients read. It takes a minute and a half, ends all that it started,
-and its status is 1 where one of these isn't so.
+a bit at a time. Beside these 1,100 connections are opened that say nothing. The node may have 1,032 connections at once,
+with those to which it only writes, and has to answer a client once the silent ones are closed. And where its disk is full,
+it has to end within two seconds while clients read slowly. It takes a minute and a half, ends all that it started, and its
+status is 1 where one of these isn't so.
 """
 import os
 import pathlib
@@ -20,16 +21,17 @@ import time
 import nodes
 from nodes import Cluster, NoAnswer, Session, Verdicts, client, framed, post_frame
 
-CLIENTS, MOST, OTHERS = 1_400, 1_032, 8
+CLIENTS, FEW, SILENT, MOST = 30, 3, 1_100, 1_032
+# Beside the connections that it takes a node has its listener and its own connection to itself.
+OWN = 3
 # Nodes that never were. The sessions whose last requests are repeated: each client takes those of one group, since what it
 # is told goes to another one that asks the same before that.
-FORGED, GROUPS, GROUP = range(2, 250), 20, 12
-# So many clients a round, a round each so many seconds, and a client each so many; each reads so many bytes a round.
-ROUND, PAUSE, STEP, PIECE = 15, 0.5, 0.03, 4_000
-# How many rounds go on once all clients are there.
-ROUNDS_MORE = 10
+FORGED, GROUPS, GROUP = range(2, 250), 10, 6
+# So many seconds after one client the next one comes, and sends what is no frame after so many; each reads so many bytes
+# each time.
+STEP, LISTENED, PIECE = 0.3, 2, 2_000
 # How many blocks of 512 bytes a file has where the disk gets full, and within how many seconds a node has to end then.
-BLOCKS, END, LONGEST = 4_096, 2.5, 60
+BLOCKS, END, GRACE, LONGEST = 8_192, 2, 0.5, 60
 COLLECT = client.command_bytes(["collect"])
 
 
@@ -59,9 +61,9 @@ class LongView(Cluster):
             time.sleep(2)
         session.close()
 
-    def asks(self):
-        """Of each group of sessions: their last requests, once more."""
-        return [b"".join(map(self.ask, range(GROUP * place, GROUP * place + GROUP))) for place in range(GROUPS)]
+    def asks(self, groups):
+        """Of each of so many groups of sessions: their last requests, once more."""
+        return [b"".join(map(self.ask, range(GROUP * place, GROUP * place + GROUP))) for place in range(groups)]
 
     def ask(self, number):
         session = Session(self.address(1), number)
@@ -83,15 +85,15 @@ class LongView(Cluster):
 class SlowReaders:
     """Clients that repeat requests, send what is no frame, and read the answers slowly."""
 
-    def __init__(self, cluster):
-        self.address, self.asks = Session(cluster.address(1), 0).address, cluster.asks()
+    def __init__(self, cluster, groups):
+        self.address, self.asks = Session(cluster.address(1), 0).address, cluster.asks(groups)
         self.listening, self.reading, self.count = [], [], 0
 
     def __enter__(self):
         return self
 
     def __exit__(self, *_):
-        for connection in (*self.listening, *self.reading):
+        for connection in (*(connection for _, connection in self.listening), *self.reading):
             connection.close()
 
     def open(self):
@@ -100,25 +102,18 @@ class SlowReaders:
         connection.setsockopt(socket.IPPROTO_TCP, socket.TCP_MAXSEG, 536)
         connection.setsockopt(socket.SOL_SOCKET, socket.SO_RCVBUF, 4096)
         connection.settimeout(2)
-        try:
-            connection.connect(self.address)
-            connection.sendall(self.asks[self.count % GROUPS])
-            self.count += 1
-            self.listening.append(connection)
-        except OSError:
-            connection.close()
-        time.sleep(STEP)
+        connection.connect(self.address)
+        connection.sendall(self.asks[self.count % len(self.asks)])
+        self.count += 1
+        self.listening.append((time.monotonic(), connection))
 
     def give_up(self):
-        """Those that were opened a round ago send what is no frame."""
-        for connection in self.listening:
-            try:
-                connection.sendall(bytes(4))
-                connection.setblocking(False)
-                self.reading.append(connection)
-            except OSError:
-                connection.close()
-        self.listening = []
+        """Those that were opened a while ago send what is no frame."""
+        while self.listening and time.monotonic() - self.listening[0][0] > LISTENED:
+            _, connection = self.listening.pop(0)
+            connection.sendall(bytes(4))
+            connection.setblocking(False)
+            self.reading.append(connection)
 
     def read(self):
         for connection in list(self.reading):
@@ -132,59 +127,69 @@ class SlowReaders:
             self.reading.remove(connection)
             connection.close()
 
-    def round(self, count):
-        end = time.monotonic() + PAUSE
-        self.give_up()
+    def come(self, count):
+        """So many clients come, one after the other, and have given up at the end."""
         for _ in range(count):
             self.open()
+            self.step()
+        while self.listening:
+            self.step()
+
+    def step(self):
+        self.give_up()
         self.read()
-        time.sleep(max(0, end - time.monotonic()))
+        time.sleep(STEP)
 
 
 def count_sockets(verdicts, program):
     with LongView(program) as cluster:
         cluster.begin()
-        with SlowReaders(cluster) as readers:
-            most = 0
-            for place in range(CLIENTS // ROUND + ROUNDS_MORE):
-                readers.round(ROUND if place < CLIENTS // ROUND else 0)
-                most = max(most, cluster.sockets())
+        with SlowReaders(cluster, GROUPS) as readers:
+            readers.come(CLIENTS)
+            silent = [socket.create_connection(readers.address, timeout=10) for _ in range(SILENT)]
+            time.sleep(1)
+            most, left = cluster.sockets(), len(readers.reading)
+            what = f"{left} clients that read slowly and {SILENT} that are silent: {most} sockets of {MOST + OWN}"
+            verdicts.add(most <= MOST + OWN, what)
+            for connection in silent:
+                connection.close()
+            readers.step()
             others = Session(cluster.address(1), 901)
-            try:
-                told = others.ask(["readflag"], 20)
-            except NoAnswer as why:
-                told = str(why)
+            told = others.ask(["readflag"], 20)
             others.close()
-        verdicts.add(most <= MOST + OTHERS, f"{CLIENTS} clients that read slowly: {most} sockets at most, {MOST} and {OTHERS} are its own")
-        verdicts.add(told.startswith("Flag"), f"another client meanwhile: {told}")
+        verdicts.add(told.startswith("Flag"), f"a client once the silent ones are closed: {told}")
 
 
 def end_beside_readers(verdicts, program):
     with LongView(program) as cluster:
         cluster.begin(BLOCKS)
         process, session = cluster.running[1], Session(cluster.address(1), 902)
-        with SlowReaders(cluster) as readers:
-            for place in range(3):
-                readers.round(7 if place < 2 else 0)
-            answered = time.monotonic()
+        with SlowReaders(cluster, FEW) as readers:
+            readers.come(FEW)
+            answered, left = time.monotonic(), 0
             while process.poll() is None and time.monotonic() - answered < LONGEST:
                 try:
-                    session.ask(["store", "a"], PAUSE)
-                    answered = time.monotonic()
+                    session.ask(["store", "a"], END / 10)
+                    answered, left = time.monotonic(), len(readers.reading)
                 except NoAnswer:
                     pass
                 readers.read()
-            took, left = time.monotonic() - answered, len(readers.reading)
+            took = time.monotonic() - answered
         session.close()
-        verdicts.add(took <= END, f"the disk is full beside {left} clients that read slowly: it {'ended' if process.poll() is not None else 'runs still'} after {took:.1f} s")
+        how = "runs still" if process.poll() is None else "ended"
+        what = f"the disk is full beside {left} clients that read slowly: it {how} after {took:.1f} s"
+        verdicts.add(left and took <= END + GRACE, what)
 
 
 def main(program):
     files = resource.getrlimit(resource.RLIMIT_NOFILE)[1]
     resource.setrlimit(resource.RLIMIT_NOFILE, (min(8_192, files), files))
     verdicts = Verdicts()
-    count_sockets(verdicts, program)
-    end_beside_readers(verdicts, program)
+    for trial in (count_sockets, end_beside_readers):
+        try:
+            trial(verdicts, program)
+        except (NoAnswer, OSError) as why:
+            verdicts.add(False, f"{trial.__name__}: {why}")
     sys.exit(not verdicts.is_good)
 
 

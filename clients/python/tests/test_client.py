@@ -49,7 +49,8 @@ class ClientTest(unittest.TestCase):
         self.assertEqual(node.asks, [*LEARNING, (0, READ_FLAG), (6, READ_FLAG), (7, STORE_B)])
 
     def test_a_number_that_another_command_has_taken_is_left_to_it(self) -> None:
-        node = self.kept(ScriptedNode([refused(0, 11, 4), refused(5, 11, 5), refused(6, 11, 8), reply(9, FLAG_0), reply(10, STORED)]))
+        fences = [refused(0, 11, 4), refused(5, 11, 5), refused(6, 11, 8), reply(9, FLAG_0)]
+        node = self.kept(ScriptedNode([*fences, reply(10, STORED)]))
         self.client(node).store("b")
         self.assertEqual(node.asks, [*LEARNING, (6, READ_FLAG), (9, READ_FLAG), (10, STORE_B)])
 
