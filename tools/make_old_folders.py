@@ -248,7 +248,7 @@ def make_entered(program, target):
         cluster.kill(3)
         cluster.kill(2)
         for node in (1, 4):
-            does(cluster, "retire", cluster.address(node), "2")
+            does(cluster, "retire", cluster.address(node), "2", "--alive")
         ask_all(cluster, 1, 7, ["max", "9"])
         settle()
         keep(cluster, 4, target / "entered")

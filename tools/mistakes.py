@@ -202,7 +202,7 @@ class Mistakes:
             took = time.monotonic() - began
             self.count += 1
             if not 1.9 < took < 2.15:
-                self.verdicts.add(False, f"ask with --timeout 2 at an address that takes no connection took {took:.2f} s")
+                self.verdicts.add(False, f"ask --timeout 2 at an address that takes no connection took {took:.2f} s")
             for it in waiting:
                 it.close()
 

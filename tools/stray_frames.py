@@ -97,7 +97,7 @@ def with_stray(verdicts, program, count, name):
 
 
 def retire_all(verdicts, cluster, what):
-    lines = [cluster.does(["retire", cluster.address(node), str(STRAY)])[1] for node in cluster.nodes]
+    lines = [cluster.does(["retire", cluster.address(node), str(STRAY), "--alive"])[1] for node in cluster.nodes]
     verdicts.add(set(lines) == {f"retired {STRAY}"}, f"{what}: retire at each node: {', '.join(lines)}")
 
 
