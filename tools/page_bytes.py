@@ -114,8 +114,8 @@ def say_page(verdicts, cluster, talk):
 
 def number_requests(talk, last):
     """What requests around the last one are told, and that a refusal uses up no number."""
-    talk.expect("the last request again, with another command", ask_frame(SESSION, last, "store", "x"),
-                "answer 05000200000005000003e9")
+    talk.expect("the last request again", ask_frame(SESSION, last, "readset"), "answer 05000200000005000003e9")
+    talk.expect("and with another command", ask_frame(SESSION, last, "store", "x"), f"refused {STALE} {last}")
     talk.expect("one beyond the next", ask_frame(SESSION, last + 2, "flag"), f"refused {SKIP} {last}")
     talk.expect("one before the last", ask_frame(SESSION, last - 1, "flag"), f"refused {STALE} {last}")
     talk.expect("the next one, with the empty text", bare_ask(SESSION, last + 1, "0100"), "answer 01")
