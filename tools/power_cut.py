@@ -7,7 +7,7 @@ Three nodes with --beta 2/3 under clients that store and collect. A sync of node
 is told, and from then on reads pages that the disk hasn't got. The node ends, is started again, and answers. Then its
 machine loses its power, so that it has only what was synced, and it is started again. No session may have lost a request
 that was answered, no number of a node may stand for two values, and each node has to show as many writes as were answered.
-The sync is that of a record's gate (TIMES times, 2), or that which arms a side (once, after a checkpoint: a minute). It
+The sync is that of a record's gate (TIMES times, 2), or that which arms a side (once, at its start). It
 needs a C compiler, takes three minutes, ends all that it started, and its status is 1 where one of these isn't so.
 """
 import os
@@ -135,7 +135,8 @@ class PowerCut:
             self.cluster.running[1].wait(UNTIL_FAULT)
         except subprocess.TimeoutExpired:
             raise NoAnswer(f"no sync failed in {UNTIL_FAULT} s") from None
-        if "Failed" not in (said := self.cluster.log(1)):
+        # While it serves, or where it writes itself anew at its start.
+        if not re.search(r"Failed|Device . Sync", said := self.cluster.log(1)):
             raise NoAnswer(f"node 1 ended otherwise: {said.strip().splitlines()[-1]}")
         self.cluster.kill(1)
 
