@@ -150,6 +150,17 @@ class Cluster:
         dead = [node for node, process in self.running.items() if process.poll() is not None]
         return {node: self.log(node).strip().splitlines()[-1:] for node in dead}
 
+    def end_of(self, node):
+        """A list that gets the moment at which a node ends, once it does."""
+        moments, process = [], self.running[node]
+
+        def wait():
+            process.wait()
+            moments.append(time.monotonic())
+
+        threading.Thread(target=wait, daemon=True).start()
+        return moments
+
     def processor_seconds(self):
         return sum(processor_seconds(process.pid) for process in self.running.values())
 

@@ -163,20 +163,19 @@ def count_sockets(verdicts, program):
 def end_beside_readers(verdicts, program):
     with LongView(program) as cluster:
         cluster.begin(BLOCKS)
-        process, session = cluster.running[1], Session(cluster.address(1), 902)
+        ended, session = cluster.end_of(1), Session(cluster.address(1), 902)
         with SlowReaders(cluster, FEW) as readers:
             readers.come(FEW)
             answered, left = time.monotonic(), 0
-            while process.poll() is None and time.monotonic() - answered < LONGEST:
+            while not ended and time.monotonic() - answered < LONGEST:
                 try:
                     session.ask(["store", "a"], END / 10)
                     answered, left = time.monotonic(), len(readers.reading)
                 except NoAnswer:
                     pass
                 readers.read()
-            took = time.monotonic() - answered
         session.close()
-        how = "runs still" if process.poll() is None else "ended"
+        took, how = (ended[0] - answered, "ended") if ended else (LONGEST, "runs still")
         what = f"the disk is full beside {left} clients that read slowly: it {how} after {took:.1f} s"
         verdicts.add(left and took <= END + GRACE, what)
 
