@@ -19,6 +19,8 @@ from nodes import client, say
 CONNECTIONS = 1_100
 # How many connections a node takes. Here all come from the machine of its peer.
 LIMIT = 1_024
+# Beside them eight are open for so many seconds, which are kept for the operator.
+SPARE = 5
 ASKS = 10_000
 # A client that never reads is closed once so many bytes wait for it, beside what the system's buffers hold.
 NEVER_READ = 400_000
@@ -37,7 +39,7 @@ def connected(address):
 def idle_connections(address):
     """Opens connections that say nothing. The node closes those above its limit."""
     idle = [connected(address) for _ in range(CONNECTIONS)]
-    time.sleep(2)
+    time.sleep(SPARE + 2)
     poll = select.poll()
     for connection in idle:
         poll.register(connection, select.POLLIN)

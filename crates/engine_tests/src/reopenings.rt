@@ -1,5 +1,7 @@
 //! A sync that fails once: reads show what was to be written, and a power cut leaves what was there before.
 
+ghost use Rattle.cc_site.specs.Moments.{CountsFault};
+
 use crate::parts::{Part, batch_of};
 use crate::sites::MEMBER;
 use cc_checkpoint::OpenFault;
@@ -75,9 +77,34 @@ impl Pages {
         true
     }
 
-    // No page is to be written any more.
-    fn forget(&mut self) {
+    fn read(&self, place: usize, into: &mut [u8]) {
+        for (offset, byte) in into.iter_mut().enumerate() {
+            let place = place.saturating_add(offset);
+            *byte = self.shown.get(place).copied().unwrap_or(0);
+        }
+    }
+
+    // Whether there was memory.
+    fn write(&mut self, place: usize, bytes: &[u8]) -> bool {
+        let mut is_done = true;
+        for (offset, byte) in bytes.iter().enumerate() {
+            is_done &= self.put(place.saturating_add(offset), *byte);
+        }
+        is_done
+    }
+
+    // Whether there was memory.
+    fn cut(&mut self, len: usize) -> bool {
+        self.shown.truncate(len);
+        self.mark(len)
+    }
+
+    // The disk gets what is to be written, unless the sync fails or the power is gone. No page is to be written any more. Whether it
+    // is told as done.
+    fn sync(&mut self, fails: bool, has_power: bool) -> bool {
+        let is_done = !fails && (!has_power || self.keep());
         self.dirty.clear();
+        is_done
     }
 
     // Reads show what the disk has. Whether there was memory.
@@ -111,14 +138,17 @@ impl ForgetfulSite {
         }
     }
 
-    fn pages(&mut self, side: Side) -> &mut Pages {
+    fn pages(&self, side: Side) -> &Pages {
         match side {
-            Side::A => &mut self.a,
-            Side::B => &mut self.b,
+            Side::A => &self.a,
+            Side::B => &self.b,
         }
     }
 
-    fn told(&mut self, is_done: bool, side: Side, call: Call) -> Result<(), DeviceFault> {
+    // Counts a call that failed, and names it.
+    fn told(&mut self, is_done: bool, side: Side, call: Call) -> Result<(), DeviceFault>
+        ensures { CountsFault self.old.failures self.new.failures side call result }
+    {
         if is_done {
             return Ok(());
         }
@@ -164,27 +194,23 @@ impl Site for ForgetfulSite {
     }
 
     fn read(&mut self, side: Side, place: u64, into: &mut [u8]) -> Result<(), DeviceFault> {
-        let pages = self.pages(side);
-        for (offset, byte) in into.iter_mut().enumerate() {
-            let place = (place as usize).saturating_add(offset);
-            *byte = pages.shown.get(place).copied().unwrap_or(0);
-        }
+        self.pages(side).read(place as usize, into);
         Ok(())
     }
 
     fn write_at(&mut self, side: Side, place: u64, bytes: &[u8]) -> Result<(), DeviceFault> {
-        let pages = self.pages(side);
-        let mut is_done = true;
-        for (offset, byte) in bytes.iter().enumerate() {
-            is_done &= pages.put((place as usize).saturating_add(offset), *byte);
-        }
+        let is_done = match side {
+            Side::A => self.a.write(place as usize, bytes),
+            Side::B => self.b.write(place as usize, bytes),
+        };
         self.told(is_done, side, Call::Write)
     }
 
     fn cut(&mut self, side: Side, len: u64) -> Result<(), DeviceFault> {
-        let pages = self.pages(side);
-        pages.shown.truncate(len as usize);
-        let is_done = pages.mark(len as usize);
+        let is_done = match side {
+            Side::A => self.a.cut(len as usize),
+            Side::B => self.b.cut(len as usize),
+        };
         self.told(is_done, side, Call::Cut)
     }
 
@@ -192,9 +218,10 @@ impl Site for ForgetfulSite {
         self.syncs = self.syncs.wrapping_add(1);
         let fails = self.syncs == self.fails_at;
         let has_power = self.syncs <= self.power_until;
-        let pages = self.pages(side);
-        let is_done = !fails && (!has_power || pages.keep());
-        pages.forget();
+        let is_done = match side {
+            Side::A => self.a.sync(fails, has_power),
+            Side::B => self.b.sync(fails, has_power),
+        };
         self.told(is_done, side, Call::Sync)
     }
 
