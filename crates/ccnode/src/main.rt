@@ -14,17 +14,13 @@ mod streams;
 use cc_arguments::{Order, parse};
 use cc_orders::{LogLevel, RunWords, WordFault};
 use cc_play::{PlayFault, play};
-use cc_server::ReadText;
 use folder::{dump, format};
 use lines::Lines;
 use loading::load;
-use machinery::Machinery;
 use network::{ask, leave, retire, status};
 use noting::NotingRuntime;
 use running::run;
-use std::fs::{File, Files};
 use std::io::BufWriter;
-use std::net::{Net, TcpListener, TcpStream};
 use std::process::ExitCode;
 use streams::StandIns;
 
@@ -39,36 +35,20 @@ fn main(rt: HostRuntime) -> anyhow::Result<ExitCode> {
     let words: Vec<String> = std::env::args(&rt)?.collect(rt.alloc())?;
     let status = match parse(rt.alloc(), &words) {
         Ok(Order::Run { folder, words }) => {
-            run_noting(&rt, folder, &words, !is_for_journal(&rt))
+            let lines = Lines::start(&rt, rt.alloc())?;
+            let has_times = !is_for_journal(&rt);
+            let machine = NotingRuntime::new(&rt, &lines, level_of(&words), has_times);
+            let status = run(&rt, &machine, folder, &words);
+            drop(machine);
+            lines.end(&rt);
+            drop(lines);
+            status
         }
         Ok(Order::Load(words)) => load(&rt, &words),
         Ok(order) => obey(&rt, order),
         Err(error) => print_error(&rt, &error),
     };
     drop(stand_ins);
-    status
-}
-
-// Runs a node that notes what it sees on standard error, whether that is read or not.
-fn run_noting<R>(
-    rt: &R,
-    folder: &str,
-    words: &RunWords<'_>,
-    has_times: bool,
-) -> anyhow::Result<ExitCode>
-where
-    R: Files<File = File>
-        + Net<Listener = TcpListener, Stream = TcpStream>
-        + ReadText
-        + Machinery
-        + Sync,
-{
-    let lines = Lines::start(rt, rt.alloc())?;
-    let machine = NotingRuntime::new(rt, &lines, level_of(words), has_times);
-    let status = run(rt, &machine, folder, words);
-    drop(machine);
-    lines.end(rt);
-    drop(lines);
     status
 }
 

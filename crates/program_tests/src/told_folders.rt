@@ -57,7 +57,7 @@ fn check_node<R: Abort + AllocGlobal + Files<File = File>>(
 
 fn check_nodes<R: Abort + AllocGlobal + Files<File = File>>(rt: &R, folder: &str) {
     check_node(rt, folder, &member(), MEMBER_LINES);
-    assert!(rt; node_in_folder(rt, rt.alloc(), folder) == NodeId::new(1));
+    assert!(rt; node_in_folder(rt, rt.alloc(), folder).ok() == NodeId::new(1));
     check_node(rt, folder, &entrant(), ENTRANT_LINES);
     remove(rt, folder);
 }

@@ -21,11 +21,11 @@ enum Does {
 
 // What a worker does after an event that repeats no request with another command.
 fn does_after(event: Event, answer: Result<bool, Refusal>) -> Does {
-    does(event, answer, false)
+    does_if(event, answer, false)
 }
 
 // What a worker does after an event that differs from what its session asked last under its number, or doesn't.
-fn does(event: Event, answer: Result<bool, Refusal>, differs: bool) -> Does {
+fn does_if(event: Event, answer: Result<bool, Refusal>, differs: bool) -> Does {
     let duty = heed(&event, answer, differs);
     drop(event);
     let does = does_in(&duty);
@@ -138,9 +138,9 @@ fn a_client_is_answered_again_or_told_why_not(rt: HostRuntime) {
 #[test]
 fn another_command_under_the_last_number_is_stale(rt: HostRuntime) {
     let does = [
-        does(asked(5), Err(Refusal::Repeat), true),
-        does(asked(5), Err(Refusal::Skip(3)), true),
-        does(joined(id(2)), Err(Refusal::Old(4)), true),
+        does_if(asked(5), Err(Refusal::Repeat), true),
+        does_if(asked(5), Err(Refusal::Skip(3)), true),
+        does_if(joined(id(2)), Err(Refusal::Old(4)), true),
     ];
     assert!(rt;
         does == [
