@@ -2,6 +2,7 @@
 --     rest_after, then_off     it holds it still behind such a run, and through two of them
 --     reads_off                through calls that only read
 --     closing_off, closed_off  while the open gate of this side is closed, and behind reading it
+--     armed_there, good_from   an armed side has a byte;  the moment is good, from whichever side it is seen
 --     arming_good, armed_rest  while this side's gate is opened both stand for the node, and then this side holds it
 use Rattle.std.proofs.Common.{◌≡◌, ℕ, ◌≤◌, List, [], ◌∷◌, length, take, set, get_or, get_or-take, refl, sym, ◌∙◌, ap, subst, inl, inr, arith}
 use Rattle.std.proofs.lemmas.Bool.{cases_eq}
@@ -27,7 +28,7 @@ use Rattle.cc_sides.specs.GoodLaws.{good_other_way, whole_good}
 use Rattle.cc_checkpoint.specs.Images.{image_holds}
 use Rattle.cc_checkpoint.specs.Checkpoints.{image_of, RestsOff, RestsOn, KeepsOff, ArmsFor, IsGoodForAll}
 
-armed_there : (bytes : List ℕ) → IsArmed bytes → 1 ≤ length bytes
+pub armed_there : (bytes : List ℕ) → IsArmed bytes → 1 ≤ length bytes
 armed_there [] is = absurd cc
 armed_there (b ∷ bytes) is = omega arith
 
@@ -101,7 +102,7 @@ module _ {D : Type 0} (s : Ghosts D) (side : Side) where
 -- ---- a side that was filled is armed
 
 -- the moment is good, from whichever side it is seen
-good_from : (side : Side) (start : Node) (events : List Event) (opening : ℕ) (left : Contents) (told : List Output)
+pub good_from : (side : Side) (start : Node) (events : List Event) (opening : ℕ) (left : Contents) (told : List Output)
     → IsGoodAt start events (length events) opening (left side) (left (other side)) told
     → IsGoodAt start events (length events) opening (left A) (left B) told
 good_from A start events opening left told good = good

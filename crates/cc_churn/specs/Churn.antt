@@ -88,11 +88,8 @@ after_message me gamma (message.Join q) s = record s { changes = add_join s.chan
 after_message me gamma (message.JoinEcho q) s = record s { changes = add_join s.changes q }
 after_message me gamma (message.Leave q) s = record s { changes = add_leave s.changes q }
 after_message me gamma (message.LeaveEcho q) s = record s { changes = add_leave s.changes q }
-after_message me gamma (message.Query tag q) s = s
-after_message me gamma (message.QueryReply v tag q) s = s
-after_message me gamma (message.Store v tag q) s = s
-after_message me gamma (message.StoreAck tag q) s = s
 after_message me gamma (message.Snapshot c v) s = united c s
+after_message me gamma _ s = s
 
 -- what an Enter of q is answered with
 abbrev pub echo_of : ℕ → Churn → ViewMap → ℕ → Message
@@ -112,14 +109,8 @@ abbrev pub post_of : ℕ → ViewMap → Message → Churn → Churn → Option 
 post_of me view (message.Enter q) before after = Some (echo_of me after view q)
 post_of me view (message.EnterEcho c v from_joined q) before after = join_of me c before after
 post_of me view (message.Join q) before after = Some (message.JoinEcho q)
-post_of me view (message.JoinEcho q) before after = None
 post_of me view (message.Leave q) before after = Some (message.LeaveEcho q)
-post_of me view (message.LeaveEcho q) before after = None
-post_of me view (message.Query tag q) before after = None
-post_of me view (message.QueryReply v tag q) before after = None
-post_of me view (message.Store v tag q) before after = None
-post_of me view (message.StoreAck tag q) before after = None
-post_of me view (message.Snapshot c v) before after = None
+post_of me view _ before after = None
 
 -- a snapshot that tells what a lapsed echo told counts as the echo of a joined node, for a node that hasn't joined
 abbrev pub told : ℕ → Fraction → Churn → Churn

@@ -3,17 +3,29 @@
 use base64::engine::general_purpose::STANDARD;
 use cc_messages::{Answer, Refusal};
 use cc_views::{Row, Text, View};
-use serde::Serialize;
+use serde::{Described, Serialize, Serializer};
 use std::alloc::{AllocError, Global};
 use std::io;
 
+// A number that may exceed 2^53, as a string of its digits.
+#[derive(Clone, Copy)]
+struct Digits(u64);
+
+impl Described for Digits {}
+
+impl Serialize for Digits {
+    fn serialize<S: Serializer>(&self, out: &mut S) -> Result<(), S::Error> {
+        out.collect_str(&self.0)
+    }
+}
+
 // An answer, under the name that `play` prints.
-#[derive(Drop, Serialize)]
+#[derive(Clone, Copy, Serialize)]
 #[serde(tag = "answer")]
 enum JsonAnswer<'a> {
     Stored,
-    Seen { view: Vec<JsonRow<'a>> },
-    Max { max: String },
+    Seen { view: &'a [JsonRow<'a>] },
+    Max { max: Digits },
     Flag { flag: bool },
     Set { set: &'a [u32] },
 }
@@ -22,30 +34,30 @@ enum JsonAnswer<'a> {
 #[derive(Drop, Serialize)]
 struct JsonRow<'a> {
     node: u32,
-    number: String,
+    number: Digits,
     #[serde(skip_serializing_if = "Option::is_none")]
     text: Option<&'a str>,
     #[serde(skip_serializing_if = "Option::is_none")]
     text_base64: Option<String>,
-    max: String,
+    max: Digits,
     flag: bool,
     set: &'a [u32],
 }
 
 // Why a request was refused: the refusal's name, its number, and what it carries, else 0.
-#[derive(Drop, Serialize)]
+#[derive(Clone, Copy, Serialize)]
 struct JsonRefusal<'a> {
     refused: &'a str,
     number: u8,
-    carries: String,
+    carries: Digits,
 }
 
-#[derive(Drop, Serialize)]
+#[derive(Clone, Copy, Serialize)]
 struct JsonInUse {
     session_in_use: bool,
 }
 
-#[derive(Drop, Serialize)]
+#[derive(Clone, Copy, Serialize)]
 struct JsonSilence {
     no_answer: bool,
 }
@@ -55,7 +67,7 @@ pub fn json_of_answer(alloc: Global, answer: &Answer) -> io::Result<String> {
     match answer {
         Answer::Stored => written(alloc, &JsonAnswer::Stored),
         Answer::Seen(view) => json_of_view(alloc, view),
-        Answer::Max(max) => json_of_max(alloc, *max),
+        Answer::Max(max) => written(alloc, &JsonAnswer::Max { max: Digits(*max) }),
         Answer::Flag(flag) => written(alloc, &JsonAnswer::Flag { flag: *flag }),
         Answer::Set(numbers) => {
             let set = numbers.as_slice();
@@ -64,19 +76,10 @@ pub fn json_of_answer(alloc: Global, answer: &Answer) -> io::Result<String> {
     }
 }
 
-fn json_of_max(alloc: Global, max: u64) -> io::Result<String> {
-    let max = digits(alloc, max)?;
-    let answer = JsonAnswer::Max { max };
-    let json = written(alloc, &answer);
-    drop(answer);
-    json
-}
-
 fn json_of_view(alloc: Global, view: &View) -> io::Result<String> {
-    let view = json_rows(alloc, view.rows())?;
-    let answer = JsonAnswer::Seen { view };
-    let json = written(alloc, &answer);
-    drop(answer);
+    let rows = json_rows(alloc, view.rows())?;
+    let json = written(alloc, &JsonAnswer::Seen { view: &rows });
+    drop(rows);
     json
 }
 
@@ -95,10 +98,10 @@ fn push_row<'a>(
 ) -> Result<(), AllocError> {
     let row = JsonRow {
         node: row.node.number(),
-        number: digits(alloc, row.number)?,
+        number: Digits(row.number),
         text: utf8_of(&row.value.text),
         text_base64: base64_of(alloc, &row.value.text)?,
-        max: digits(alloc, row.value.max)?,
+        max: Digits(row.value.max),
         flag: row.value.flag,
         set: row.value.set.as_slice(),
     };
@@ -117,10 +120,6 @@ fn base64_of(alloc: Global, text: &Text) -> Result<Option<String>, AllocError> {
     }
 }
 
-fn digits(alloc: Global, number: u64) -> Result<String, AllocError> {
-    format!(in alloc; "{number}")
-}
-
 /// A refusal as JSON. The only error is a refused growth.
 pub fn json_of_refusal(alloc: Global, why: Refusal) -> io::Result<String> {
     let printed = format!(in alloc; "{why}")?;
@@ -128,10 +127,9 @@ pub fn json_of_refusal(alloc: Global, why: Refusal) -> io::Result<String> {
     let refusal = JsonRefusal {
         refused,
         number: why.number(),
-        carries: digits(alloc, why.value())?,
+        carries: Digits(why.value()),
     };
     let json = written(alloc, &refusal);
-    drop(refusal);
     drop(printed);
     json
 }

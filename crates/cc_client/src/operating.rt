@@ -26,6 +26,7 @@ pub fn leave_node<R: Net<Stream = TcpStream> + Clock, W: Write>(
 ) -> io::Result<Told> {
     let request = Request::Leave;
     let brought = request.bring(rt, alloc, &order.address);
+    drop(request);
     if let Ok(Outcome::Done) = brought {
         writeln!(output, "left")?;
     }

@@ -2,6 +2,7 @@
 --     lawful_after                       the events of a lawful batch are lawful after those that led to its node
 --     none_made                          nothing was put since now
 --     MayRead                            what a read gives is among what a crash may leave
+--     to_side                            a moment that is good, seen from a side
 --     resting, good_now, stands_now      they rest where they stand and the moment is good, and the other way
 --     rests_there                        from the node that they stand for on, they rest
 --     rested, owed_rests                 an engine that owes nothing rests;  one that owes
@@ -51,7 +52,7 @@ none_made start sent told same output has =
 abbrev pub MayRead : {D : Type 0} → Ghosts D → Type 0
 MayRead {D} s = (site : D) → s.honest site → (side : Side) → MayLeave (s.state site side) (s.state site side).bytes
 
-to_side : (side : Side) (start : Node) (events : List Event) (durable opening : ℕ) (left : Contents) (told : List Output)
+pub to_side : (side : Side) (start : Node) (events : List Event) (durable opening : ℕ) (left : Contents) (told : List Output)
     → IsGood start events durable opening left told → IsGoodAt start events durable opening (left side) (left (other side)) told
 to_side A start events durable opening left told good = good
 to_side B start events durable opening left told good = good_other_way start events durable opening (left A) (left B) told good

@@ -7,5 +7,6 @@ mod Flushing
 mod OneNode
 mod NodeOrFault
 mod Reopened
+mod ArmingAgain
 pub mod Advancing
 pub mod MovingRuns

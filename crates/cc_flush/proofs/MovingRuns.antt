@@ -42,7 +42,7 @@ surely_shut : (side : SideState) → IsSettled side → IsSurelyShut side
 surely_shut side is shut bytes may = subst IsShut (sym (settled_bytes side is bytes may)) shut
 
 module _ {D : Type 0} (s : Ghosts D) where
-  stays : (led : Node → List Event → ℕ → Type 0) (old new : D) → CountsNow s new
+  pub stays : (led : Node → List Event → ℕ → Type 0) (old new : D) → CountsNow s new
       → ((start : Node) (events : List Event) (opening : ℕ) → led start events opening → EachMoment s old new (IsGoodForAll start events opening))
       → StaysGood s led old new
   stays led old new counts runs = record {

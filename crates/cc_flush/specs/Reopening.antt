@@ -1,13 +1,42 @@
 -- A node that was opened and written anew.
---     IsWrittenAnew     the side that it was found on isn't in use any more, and the one in use is its image, made sure of
---     IsAnew            so it is, unless no generation is left for that
-use Rattle.std.specs.Prelude.{◌≡◌, ◌⊎◌, ◌≤◌, ◌∷◌}
+--     IsWrittenAnew       the side that it was found on isn't in use any more, and the one in use is its image, made sure of
+--     IsAnew              so it is, unless no generation is left for that
+--     HoldsTwice          where both sides are armed, each of them holds the node
+--     older_of            of two armed sides the one with the lower generation
+--     IsArmedAgain        then the gate of the one with the greater generation was written once more, and made sure of
+--     LeadsToSite         these events led to what the sides hold, and the moment is good for them
+use Rattle.std.specs.Prelude.{◌≡◌, ◌⊎◌, ◌<◌, ◌≤◌, ℕ, nat_lt, if◌then◌else◌, List, [], ◌∷◌, length, Option, Some, None}
+use Rattle.cc_messages.specs.declared.event.Event.{Event}
 use Rattle.cc_site.specs.declared.site.Site.{Ghosts}
-use Rattle.cc_site.specs.Sides.{durable, other}
-use Rattle.cc_sides.specs.Sides.{OPEN}
+use Rattle.cc_site.specs.declared.site.Side.{Side}
+use Rattle.cc_site.specs.declared.site.Side.TheVariants.{A, B}
+use Rattle.cc_site.specs.Sides.{SideState, durable, other, settled, written}
+use Rattle.cc_site.specs.Moments.{Contents}
+use Rattle.cc_site.specs.Reads.{bytes_of}
+use Rattle.cc_node.specs.Node.{Node, after}
+use Rattle.cc_sides.specs.Sides.{OPEN, IsArmed, generation_of, Holds}
+use Rattle.cc_checkpoint.specs.declared.choosing.Peeked.{Peeked}
+use Rattle.cc_checkpoint.specs.declared.choosing.Peeked.TheVariants.{Armed}
 use Rattle.cc_checkpoint.specs.Checkpoints.{image_of}
+use Rattle.cc_journal.specs.Journals.{IsGoodNow}
 use Rattle.cc_views.specs.Limits.{counter_limit}
 use Rattle.cc_flush.specs.Engine.{Engine}
+
+-- a move leaves both sides armed from the moment that arms the one to the moment that closes the other
+abbrev pub HoldsTwice : Contents → Node → Type 0
+HoldsTwice read node =
+    IsArmed (read A) → IsArmed (read B) → (side : Side) → (generation : ℕ) × (place : ℕ) × Holds (read side) generation node place
+
+abbrev pub older_of : Peeked → Peeked → Option Side
+older_of (Armed a) (Armed b) = if nat_lt a b then Some A else Some B
+older_of (Armed a) _ = None
+older_of _ second = None
+
+abbrev pub IsArmedAgain : (Side → SideState) → (Side → SideState) → Type 0
+IsArmedAgain old new =
+    ((side : Side) → IsArmed (old side).bytes × (9 ≤ length (old side).bytes))
+    → (newer : Side) → generation_of (old (other newer)).bytes < generation_of (old newer).bytes
+    → new newer ≡ settled (written (old newer) 0 (OPEN ∷ []))
 
 module _ {D : Type 0} (s : Ghosts D) where
   pub record IsWrittenAnew (e : Engine D) : Type 0 where
@@ -16,3 +45,7 @@ module _ {D : Type 0} (s : Ghosts D) where
 
   abbrev pub IsAnew : Engine D → Type 0
   IsAnew e = (counter_limit ≤ e.generation) ⊎ IsWrittenAnew e
+
+  pub record LeadsToSite (site : D) (start : Node) (events : List Event) (opening : ℕ) : Type 0 where
+    pub good : IsGoodNow s site start events opening
+    pub twice : HoldsTwice (bytes_of s site) (after start events)

@@ -1,28 +1,42 @@
 //! A node is opened so that nothing of it rests on a sync that failed in an earlier life.
 
-ghost use Rattle.std.specs.Prelude.{◌≡◌, ◌↔◌, ◌≤◌, ◌⊎◌, false, None, IfOk, MatchResult};
+ghost use Rattle.std.specs.Prelude.{ℕ, ◌≡◌, ◌↔◌, ◌≤◌, ◌⊎◌, List, [], ◌∷◌, false, None, IfOk, OnOk, MatchResult};
+ghost use Rattle.cc_messages.specs.declared.event.Event.{Event};
+ghost use Rattle.cc_site.specs.declared.site.Side.{Side as SideValue};
+ghost use Rattle.cc_site.specs.Sides.{other, settled, written};
 ghost use Rattle.cc_views.specs.Limits.{counter_limit};
+ghost use Rattle.cc_node.specs.Node.{Node, after};
+ghost use Rattle.cc_sides.specs.Sides.{OPEN, IsArmed};
+ghost use Rattle.cc_journal.specs.Journals.{StaysGood};
+ghost use Rattle.cc_flush.specs.Flushing.{LeadsTo};
 ghost use Rattle.cc_flush.specs.Moving.{Moves};
-ghost use Rattle.cc_flush.specs.Reopening.{IsAnew};
+ghost use Rattle.cc_flush.specs.Reopening.{IsAnew, IsArmedAgain, LeadsToSite, older_of};
 
 use crate::back::Back;
 use crate::flusher::{CheckpointFault, Flusher};
-use cc_checkpoint::{OpenFault, Peeked, arm, peek};
+use crate::laws::one_node;
+use cc_checkpoint::{OpenFault, Peeked, peek};
 use cc_node::Core;
-use cc_site::{DeviceFault, Side, Site};
+use cc_site::{DeviceFault, OPEN_GATE, Side, Site, write_durably};
 use std::alloc::Global;
 
 /// Opens two sides, and writes the node that they hold anew on the other side, before anything is put. A system tells of a failed
 /// sync once, and shows what was to be written from then on, though the disk hasn't got it; a later sync succeeds and writes
-/// nothing. So what is read may be missing on the disk until it is written once more. The faults are those of `Flusher::open`, and
-/// Device where a call fails that writes.
+/// nothing. So what is read may be missing on the disk until it is written once more. At each moment a crash leaves two sides that
+/// stand for the node. The faults are those of `Flusher::open`, and Device where a call fails that writes.
 pub fn open_anew<S: Site>(alloc: Global, site: S) -> Result<(Flusher<S>, Core), Back<S, OpenFault>>
     ensures anew { S.honest site → IfOk result (λ opened. IsAnew S.Site opened.0) }
     ensures engine { IfOk result (λ opened. (opened.0.failed ≡ None) × (opened.0.owes ≡ false) × (opened.1 ≡ opened.0.twin.core)) }
     ensures outlet { MatchResult result
         (λ opened. (S.tells site ↔ S.tells opened.0.site) × (S.sent opened.0.site ≡ S.sent site))
         (λ b. (S.tells site ↔ S.tells b.site) × (S.sent b.site ≡ S.sent site)) }
+    // From every history that led to the sides, and holds on both of them where both are armed.
+    ensures good { S.honest site → MatchResult result (λ opened. StaysGood S.Site (LeadsToSite S.Site site) site opened.0.site)
+        (λ b. StaysGood S.Site (LeadsToSite S.Site site) site b.site) }
+    ensures node { S.honest site → (start : Node) (events : List Event) (opening : ℕ) → LeadsToSite S.Site site start events opening
+        → IfOk result (λ opened. opened.0.twin ≡ after start events) }
 {
+    one_node();
     let mut site = site;
     if let Err(fault) = arm_again(&mut site) {
         return Err(Back { site, fault });
@@ -53,6 +67,7 @@ fn write_anew<S: Site>(engine: &mut Flusher<S>) -> Result<(), DeviceFault>
     ensures owes { engine.new.owes ≡ false }
     ensures honest { S.honest engine.old.site ↔ S.honest engine.new.site }
     ensures outlet { (S.tells engine.old.site ↔ S.tells engine.new.site) × (S.sent engine.new.site ≡ S.sent engine.old.site) }
+    ensures good { S.honest engine.old.site → StaysGood S.Site (LeadsTo S.Site engine.old) engine.old.site engine.new.site }
 {
     match engine.checkpoint() {
         Ok(()) | Err(CheckpointFault::Spent) => Ok(()),
@@ -60,17 +75,43 @@ fn write_anew<S: Site>(engine: &mut Flusher<S>) -> Result<(), DeviceFault>
     }
 }
 
-// Where both sides are armed, a move ended at the sync that arms the newer one, or right behind it: that gate is written once more,
-// since the next move begins by closing the older side, which the newer one may still need on the disk.
+// Where both sides are armed, a move ended at the sync that arms the newer one, or right behind it. That gate may be missing on
+// the disk, and the next move begins by closing the older side: so the gate is written once more.
 fn arm_again<S: Site>(site: &mut S) -> Result<(), OpenFault>
     ensures honest { S.honest site.old ↔ S.honest site.new }
     ensures outlet { (S.tells site.old ↔ S.tells site.new) × (S.sent site.new ≡ S.sent site.old) }
+    ensures good { S.honest site.old → StaysGood S.Site (LeadsToSite S.Site site.old) site.old site.new }
+    ensures armed { S.honest site.old → OnOk result (IsArmedAgain (S.state site.old) (S.state site.new)) }
 {
     let first = peek(site, Side::A)?;
     let second = peek(site, Side::B)?;
-    if let (Peeked::Armed(first), Peeked::Armed(second)) = (first, second) {
-        let newer = if first < second { Side::B } else { Side::A };
-        arm(site, newer)?;
+    if let Some(older) = older_of(first, second) {
+        write_gate_again(site, older)?;
     }
     Ok(())
+}
+
+// Of two armed sides the one with the lower generation.
+fn older_of(first: Peeked, second: Peeked) -> Option<Side>
+    ensures { result ≡ older_of first second }
+{
+    match (first, second) {
+        (Peeked::Armed(first), Peeked::Armed(second)) if first < second => Some(Side::A),
+        (Peeked::Armed(_), Peeked::Armed(_)) => Some(Side::B),
+        _ => None,
+    }
+}
+
+// Writes the open gate of the side that isn't the older one over itself. The older one is made sure of before, since a crash may
+// leave no other.
+fn write_gate_again<S: Site>(site: &mut S, older: Side) -> Result<(), DeviceFault>
+    ensures honest { S.honest site.old ↔ S.honest site.new }
+    ensures outlet { (S.tells site.old ↔ S.tells site.new) × (S.sent site.new ≡ S.sent site.old) }
+    ensures good { S.honest site.old → ((side : SideValue) → IsArmed (S.state site.old side).bytes)
+        → StaysGood S.Site (LeadsToSite S.Site site.old) site.old site.new }
+    ensures written { S.honest site.old
+        → OnOk result (S.state site.new (other older) ≡ settled (written (S.state site.old (other older)) 0 (OPEN ∷ []))) }
+{
+    site.sync(older)?;
+    write_durably(site, older.other(), 0, &[OPEN_GATE])
 }

@@ -191,37 +191,11 @@ impl<L: Life, Q: Lane> Intake<L, Q> {
         Some(Share { mark, count: 0 })
     }
 
-    /// Accepts an event, as one step on the queue, and counts it for the share. Its place in this life, and whether it
-    /// makes a post or an answer there. A refused event is given up, and has changed nothing: it is refused for the core's
+    /// Accepts an event, as one step on the queue, and counts it for the share: a copy of it is taken in. Its place in this
+    /// life, and whether it makes a post or an answer there. A refused event has changed nothing: it is refused for the core's
     /// reason, else Spent after 2^61 events of this life, else NoMemory where a growth was refused, else QueueFull where a
     /// look found the queue full. With the reason it is told how many events were accepted by then.
     pub fn accept<R: Wait>(
-        &mut self,
-        rt: &R,
-        alloc: Global,
-        share: &mut Share<L>,
-        queue: &Queue<L, Q>,
-        event: Event,
-    ) -> Result<Accepted, Refused>
-        ensures accepted { IfOk result (λ a. MayAccept L.opening self.old event × (a.place ≡ length self.new.entries)
-            × (self.new ≡ record {
-              entries = self.old.entries ++ entry_at (core_after L.opening self.old.entries) event ∷ [];
-              finds = self.old.finds;
-              issued = self.old.issued;
-            })) }
-        ensures stirs { IfOk result (λ a. a.stirs ≡ stirs (made (core_after L.opening self.old.entries) event)) }
-        ensures counted { IfOk result (λ a. (share.new ≡ share.old + 1) × (share.old < a.place)) }
-        ensures refused { IfErr result (λ r. Refuses L.opening L.taken self.old event r.why self.new × (r.accepted ≡ length self.old.entries)) }
-        ensures uncounted { OnErr result (share.new ≡ share.old) }
-        ensures of_life { L.accepted self.old.entries × L.accepted self.new.entries }
-    {
-        let answer = self.accept_copy(rt, alloc, share, queue, &event);
-        drop(event);
-        answer
-    }
-
-    /// The same of an event that stays the caller's: a copy of it is what is taken in.
-    pub fn accept_copy<R: Wait>(
         &mut self,
         rt: &R,
         alloc: Global,
@@ -241,43 +215,13 @@ impl<L: Life, Q: Lane> Intake<L, Q> {
         ensures uncounted { OnErr result (share.new ≡ share.old) }
         ensures of_life { L.accepted self.old.entries × L.accepted self.new.entries }
     {
-        let accepted = self.accepted;
-        let answer = self.accept_event(rt, alloc, share, queue, event);
-        match answer {
-            Ok(answer) => Ok(answer),
-            Err(why) => Err(Refused {
-                why,
-                accepted,
-                told: Told,
-            }),
-        }
-    }
-
-    // The same, without how many were accepted by then.
-    fn accept_event<R: Wait>(
-        &mut self,
-        rt: &R,
-        alloc: Global,
-        share: &mut Share<L>,
-        queue: &Queue<L, Q>,
-        event: &Event,
-    ) -> Result<Accepted, Refusal>
-        ensures accepted { IfOk result (λ a. MayAccept L.opening self.old event.now × (a.place ≡ length self.new.entries)
-            × (self.new ≡ record {
-              entries = self.old.entries ++ entry_at (core_after L.opening self.old.entries) event.now ∷ [];
-              finds = self.old.finds;
-              issued = self.old.issued;
-            })) }
-        ensures stirs { IfOk result (λ a. a.stirs ≡ stirs (made (core_after L.opening self.old.entries) event.now)) }
-        ensures counted { IfOk result (λ a. (share.new ≡ share.old + 1) × (share.old < a.place)) }
-        ensures refused { IfErr result (λ r. Refuses L.opening L.taken self.old event.now r self.new) }
-        ensures uncounted { OnErr result (share.new ≡ share.old) }
-        ensures of_life { L.accepted self.old.entries × L.accepted self.new.entries }
-    {
-        let entry = self.prepared(alloc, event)?;
+        let entry = match self.prepared(alloc, event) {
+            Ok(entry) => entry,
+            Err(why) => return Err(self.refused(why)),
+        };
         let stirs = stirs(&entry.made);
         let Ok(()) = self.producer.push(rt, queue, entry) else {
-            return Err(Refusal::QueueFull);
+            return Err(self.refused(Refusal::QueueFull));
         };
         self.core.apply(event);
         self.accepted += 1;
@@ -286,6 +230,17 @@ impl<L: Life, Q: Lane> Intake<L, Q> {
             place: self.accepted,
             stirs,
         })
+    }
+
+    // A refusal, as it is told now.
+    fn refused(&self, why: Refusal) -> Refused
+        ensures { (result.why ≡ why) × (result.accepted ≡ length self.now.entries) }
+    {
+        Refused {
+            why,
+            accepted: self.accepted,
+            told: Told,
+        }
     }
 
     // The queue's entry of an event that may be accepted, in memory of its own. All growths of an accept are here.

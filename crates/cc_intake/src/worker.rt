@@ -72,5 +72,5 @@ fn bring<L: Life, Q: Lane, R: Wait>(
     ensures count { share.new ≡ step result share.old }
     ensures above { IsAbove result share.old }
 {
-    lock.lock(rt).accept_copy(rt, alloc, share, queue, event)
+    lock.lock(rt).accept(rt, alloc, share, queue, event)
 }

@@ -3,6 +3,7 @@
 --     IsWriteOp, IsReadOp, either_op     it was of a writing round, or of a reading one
 --     op_pends, op_writes, op_reads      it pended there, and its command wrote, or read
 --     asked_last             each ask that pends is its session's last request
+--     asked_none             a session that has one has none that waits behind it
 --     StoredRound            a round in which a view was stored, of which something holds
 --     ReadRound              a round in which a view was queried, with what was seen in it
 --     number_reached         a writing ask that was answered was counted
@@ -65,7 +66,7 @@ use Rattle.cc_laws.proofs.Writing.{asked_both, fresh_line, fresh_number}
 
 -- ---- the requests of a session
 
-request_new : (c : Core) (s r : ℕ) (k : Command) → decides c (event.Ask s r k) ≡ None → last_request c.sessions s < r
+pub request_new : (c : Core) (s r : ℕ) (k : Command) → decides c (event.Ask s r k) ≡ None → last_request c.sessions s < r
 request_new c s r k taken =
     let t = takes_ask c s r k taken in
     let parts = or_parts _ _ t.new in
@@ -88,7 +89,7 @@ last_inserted ss x r s up =
           omega (arith, now)
     ]
 
-last_next : (c : Core) (e : Event) (s : ℕ) → decides c e ≡ None → last_request c.sessions s ≤ last_request (next c e).sessions s
+pub last_next : (c : Core) (e : Event) (s : ℕ) → decides c e ≡ None → last_request c.sessions s ≤ last_request (next c e).sessions s
 unfolding next
 last_next c (event.Ask x r k) s d = last_inserted c.sessions x r s (λ is. subst (λ (y : ℕ). last_request c.sessions y < r) is (request_new c x r k d))
 last_next c _ s d = omega arith
@@ -173,6 +174,16 @@ asked_last c lawful s r has =
     let last : table.get c.sessions x.session ≡ Some x.request =
     all_at (IsLastOf c.sessions) (unanswered c.ops) x each (Contains-append_left (pending c.ops) c.ops.line x has.1) in
     ap (λ (y : ℕ). last_request c.sessions y) (sym has.2) ∙ ap (λ o. unwrap_or o 0) last ∙ has.3
+
+-- who has an ask in front has none behind
+none_behind : (xs ys : List Asked) → AreApart (xs ++ ys) → AllByRecursion (λ x. has_session x.session ys ≡ false) xs
+none_behind [] ys apart = tt
+none_behind (x ∷ xs) ys apart = ((or_parts _ _ (sym (has_both x.session xs ys) ∙ apart.0)).1, none_behind xs ys apart.1)
+
+pub asked_none : (s r : ℕ) (xs ys : List Asked) → AreApart (xs ++ ys) → HasAsked xs s r → has_session s ys ≡ false
+asked_none s r xs ys apart has =
+    subst (λ (y : ℕ). has_session y ys ≡ false) has.2
+    (all_at (λ (x : Asked). has_session x.session ys ≡ false) xs has.0 (none_behind xs ys apart) has.1)
 
 -- which answers a reading command has, and a writing one
 pub reads_view : (k : Command) (v : ViewMap) → is_writing k ≡ false → answer.Stored ≡ answer_of k v → ⊥
@@ -329,16 +340,6 @@ module _ (q : ℕ) (m : Member) (sound : IsSound q m) where
             ]
         | false ↦ λ here. or_right _ _ (has_of k s asks here)
       ] is
-
-  -- who has an ask in front has none behind
-  none_behind : (xs ys : List Asked) → AreApart (xs ++ ys) → AllByRecursion (λ x. has_session x.session ys ≡ false) xs
-  none_behind [] ys apart = tt
-  none_behind (x ∷ xs) ys apart = ((or_parts _ _ (sym (has_both x.session xs ys) ∙ apart.0)).1, none_behind xs ys apart.1)
-
-  asked_none : (s r : ℕ) (xs ys : List Asked) → AreApart (xs ++ ys) → HasAsked xs s r → has_session s ys ≡ false
-  asked_none s r xs ys apart has =
-      subst (λ (y : ℕ). has_session y ys ≡ false) has.2
-      (all_at (λ (x : Asked). has_session x.session ys ≡ false) xs has.0 (none_behind xs ys apart) has.1)
 
   pub number_reached : (s r k : ℕ) (a : Answer) (op : Ended m s r a) → HasAsked (pending (after start op.before).core.ops) s r
       → IsWriteAsk (released_events m) k s r → k ≤ (after start op.before).core.ops.number

@@ -18,7 +18,7 @@ use Rattle.cc_messages.specs.declared.message.Message.TheVariants as message
 use Rattle.cc_ops.specs.declared.pending.Asked.{Asked}
 use Rattle.cc_ops.specs.declared.pending.Pending.{Pending}
 use Rattle.cc_ops.specs.Ops.{Ops, Phase, Idle, Storing, Querying, StoringBack, is_idle, is_last, is_own, round_of, counted, merged, next_round, begin_round}
-use Rattle.cc_ops.specs.Ops.{with_begun, after_reply, after_last, after_ack, ends_query, ends_store, again, asked_in}
+use Rattle.cc_ops.specs.Ops.{with_begun, after_reply, after_last, after_ack, asked_in}
 use Rattle.cc_ops.specs.OwnLaws.{anew_keeps}
 use Rattle.cc_ops.specs.Rounds.{first_round, line_behind}
 use Rattle.cc_ops.specs.Waiting.{writes_by}
@@ -26,8 +26,8 @@ use Rattle.cc_churn.specs.Churn as churn
 use Rattle.cc_node.specs.Core.{Core, quorum, asked_of, skips, churn_told, anew_if, next}
 use Rattle.cc_node.specs.Node.{Node, step, after}
 use Rattle.cc_node.specs.Opening.{Opening, fresh}
-use Rattle.cc_laws.specs.Progress.{round_under, round_in, answers_in, need_in, GainsAnswer, BeginsAnew, EndsRound, IsFrom}
-use Rattle.cc_laws.specs.Rounds.{awaits_views, awaits_acks, counts, ends_round, begins_anew, with_peer, peers_next, peers_along, Round, peers_of}
+use Rattle.cc_laws.specs.Progress.{round_under, round_in, GainsAnswer, BeginsAnew, EndsRound, IsFrom}
+use Rattle.cc_laws.specs.Rounds.{awaits_views, awaits_acks, answers_in, need_in, lacks_one, counts, ends_round, begins_anew, with_peer, peers_next, peers_along, Round, peers_of}
 use Rattle.cc_laws.proofs.Becoming.{of_round}
 use Rattle.cc_laws.proofs.CountedAnswers.{no_views}
 
@@ -126,7 +126,7 @@ module _ (e : Event) (from : ℕ) (is_from : IsFrom from e) where
         ] refl
 
   ack_outcome : (me quorum : ℕ) (s : Ops) (b : Bool) (phase : Phase) → s.phase ≡ phase
-      → Outcome e s (if b then after_ack me quorum phase s else s) (then_some (b && awaits_acks phase) from) (b && ends_store phase) false
+      → Outcome e s (if b then after_ack me quorum phase s else s) (then_some (b && awaits_acks phase) from) ((b && awaits_acks phase) && lacks_one phase) false
   ack_outcome me quorum s false phase is = still s
   ack_outcome me quorum s true Idle is = still s
   ack_outcome me quorum s true (Storing p) is =
@@ -138,7 +138,7 @@ module _ (e : Event) (from : ℕ) (is_from : IsFrom from e) where
       (last_over me quorum s) (last_answers me quorum s) (last_for_good me quorum s (ap awaits_acks is))
 
   reply_outcome : (quorum : ℕ) (v : ViewMap) (s : Ops) (b : Bool) (phase : Phase) → s.phase ≡ phase
-      → Outcome e s (if b then after_reply quorum v phase s else s) (then_some (b && awaits_views phase) from) (b && ends_query phase) false
+      → Outcome e s (if b then after_reply quorum v phase s else s) (then_some (b && awaits_views phase) from) ((b && awaits_views phase) && lacks_one phase) false
   reply_outcome quorum v s false phase is = still s
   reply_outcome quorum v s true Idle is = still s
   reply_outcome quorum v s true (Storing p) is = still s
@@ -155,14 +155,6 @@ ask_outcome e me quorum a line s Idle is =
     (round_answers me quorum (a ∷ []) s ∙ ap answers_in (sym is))
 ask_outcome e me quorum a line s _ is = goes_on refl refl refl (λ _. refl) refl
 
-again_answers : (quorum : ℕ) (phase : Phase) → answers_in (again quorum phase) ≡ 0
-again_answers quorum Idle = refl
-again_answers quorum _ = refl
-
-again_awaits : (quorum : ℕ) (phase : Phase) → awaits_views (again quorum phase) ≡ awaits_views phase
-again_awaits quorum Idle = refl
-again_awaits quorum _ = refl
-
 busy_pends : (tag : ℕ) (phase : Phase) → is_idle phase ≡ false → is_some (round_under tag phase) ≡ true
 busy_pends tag Idle busy = cc
 busy_pends tag _ busy = refl
@@ -178,8 +170,8 @@ snapshot_outcome e true may quorum v s is =
       number = refl;
       asked = λ i. k.asked i ++ k.others i;
       seen = k.seen;
-      awaited = again_awaits quorum s.phase;
-      none = again_answers quorum s.phase;
+      awaited = k.awaited;
+      none = k.none;
     })
   where
     busy : (idle : Bool) → true ≡ (not idle && may) → idle ≡ false

@@ -27,6 +27,7 @@ mod Pending
 mod CountedAnswers
 mod Knowing
 mod Answering
+mod OneRound
 mod Regularity
 mod Counting
 mod Staying

@@ -23,13 +23,13 @@ use Rattle.cc_ops.specs.declared.pending.Pending.{Pending}
 use Rattle.cc_ops.specs.Rounds.{first_round, line_behind}
 use Rattle.cc_ops.specs.Waiting.{writes_by}
 use Rattle.cc_ops.specs.Ops.{Ops, Phase, Idle, Storing, Querying, StoringBack, is_idle, is_last, is_own, round_of, counted, merged, next_round, begin_round}
-use Rattle.cc_ops.specs.Ops.{with_begun, after_reply, after_last, after_ack, ends_query, ends_store, again, asked_in, pending}
+use Rattle.cc_ops.specs.Ops.{with_begun, after_reply, after_last, after_ack, again, asked_in, pending}
 use Rattle.cc_churn.specs.Churn as churn
 use Rattle.cc_node.specs.Core.{Core, quorum, asked_of, skips, churn_told, anew_if, next}
 use Rattle.cc_node.specs.Node.{Node, step, after}
 use Rattle.cc_node.specs.Opening.{Opening, fresh}
 use Rattle.cc_laws.specs.Regular.{HasAtLeast}
-use Rattle.cc_laws.specs.Rounds.{awaits_views, awaits_acks, ends_round, begins_anew, with_peer, peers_next, peers_along}
+use Rattle.cc_laws.specs.Rounds.{awaits_views, awaits_acks, lacks_one, ends_round, begins_anew, with_peer, peers_next, peers_along}
 use Rattle.cc_laws.proofs.Lists.{all_changed}
 use Rattle.cc_laws.proofs.Places.{after_push, Place, place_in}
 use Rattle.cc_laws.proofs.Says.{stored_of}
@@ -199,7 +199,7 @@ module _ (start : Node) (past : List Event) (e : Event) where
           → is_own me tag q s ≡ b
           → (phase : Phase) → s.phase ≡ phase → (next c e).ops ≡ (if b then after_ack me quorum phase s else s)
           → Pends start past peers me s.number s.view s.tag s.others phase
-          → PendsIn start now (if b && ends_store phase then [] else with_peer (then_some (b && awaits_acks phase) from) peers) me
+          → PendsIn start now (if (b && awaits_acks phase) && lacks_one phase then [] else with_peer (then_some (b && awaits_acks phase) from) peers) me
           (if b then after_ack me quorum phase s else s)
       ack_pends me quorum tag q peers s old it false own phase is next_is h = same_pends peers me s phase is h
       ack_pends me quorum tag q peers s old it true own Idle is next_is h = same_pends peers me s Idle is h
@@ -229,10 +229,10 @@ module _ (start : Node) (past : List Event) (e : Event) where
 
       reply_pends : (me quorum tag q : ℕ) (v : ViewMap) (peers : List ℕ) (s : Ops) → s ≡ c.ops → e ≡ event.Deliver from n (message.QueryReply v tag q)
           → (b : Bool) → is_own me tag q s ≡ b
-          → (ends_round c e ≡ (is_own me tag q s && ends_query s.phase))
+          → (ends_round c e ≡ ((is_own me tag q s && awaits_views s.phase) && lacks_one s.phase))
           → (phase : Phase) → s.phase ≡ phase → (next c e).ops ≡ (if b then after_reply quorum v phase s else s)
           → Pends start past peers me s.number s.view s.tag s.others phase
-          → PendsIn start now (if b && ends_query phase then [] else with_peer (then_some (b && awaits_views phase) from) peers) me
+          → PendsIn start now (if (b && awaits_views phase) && lacks_one phase then [] else with_peer (then_some (b && awaits_views phase) from) peers) me
           (if b then after_reply quorum v phase s else s)
       reply_pends me quorum tag q v peers s old it false own test phase is next_is h = same_pends peers me s phase is h
       reply_pends me quorum tag q v peers s old it true own test Idle is next_is h = same_pends peers me s Idle is h
@@ -251,7 +251,7 @@ module _ (start : Node) (past : List Event) (e : Event) where
                 query = p;
                 querying = ap (λ (d : Core). d.ops.phase) (sym at) ∙ ap (λ (t : Ops). t.phase) (sym old) ∙ is;
                 same = ap (λ (d : Core). pending d.ops) (sym at) ∙ ap pending (sym old) ∙ ap (λ (f : Phase). asked_in f ++ s.others) is;
-                ends = subst (λ (d : Core). ends_round d e ≡ true) at (test ∙ and_from _ _ own (ap ends_query is ∙ last));
+                ends = subst (λ (d : Core). ends_round d e ≡ true) at (test ∙ and_from _ _ (and_from _ _ own (ap awaits_views is)) (ap lacks_one is ∙ last));
                 saw = ap (λ (d : Core). d.ops.view) core_push ∙ ap (λ (d : Core). (next d e).ops.view) (sym at) ∙ ap (λ (t : Ops). t.view) now_is;
               },
             )

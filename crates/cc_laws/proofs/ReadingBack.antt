@@ -32,7 +32,7 @@ use Rattle.cc_laws.specs.Clusters.{Member, Cluster, node_at}
 use Rattle.cc_laws.specs.Shown.{Shows, stored_back}
 use Rattle.cc_laws.specs.Runs.{at_member, IsWrittenBy}
 use Rattle.cc_laws.specs.Written.{values_of, IsWriteOf}
-use Rattle.cc_laws.specs.Regular.{released_events, IsAnswered, IsWriteAsk, IsAhead, ShareNode}
+use Rattle.cc_laws.specs.Regular.{released_events, IsAnswered, IsWriteAsk, IsAhead}
 use Rattle.cc_laws.specs.ReadBack.{IsDone}
 use Rattle.cc_laws.proofs.Lasting.{IsStable, value_stays, value_there, max_lasts, flag_lasts, set_lasts, max_bounds, max_least, flag_there, flag_from}
 use Rattle.cc_laws.proofs.Lasting.{set_there, set_from}
@@ -40,7 +40,7 @@ use Rattle.cc_laws.proofs.Agreeing.{occurring_rows}
 use Rattle.cc_laws.proofs.Clustering.{Holds, IsAt, one_at, GrownAt, grows_same}
 use Rattle.cc_laws.proofs.Once.{contains_cases}
 use Rattle.cc_laws.proofs.Lists.{at_some}
-use Rattle.cc_laws.proofs.Regularity.{Reading, some_and, h_end, reading_mid, reading_end, stores_seen, reads_in_turn, Course, grown}
+use Rattle.cc_laws.proofs.Regularity.{RoundsShare, Reading, some_and, h_end, reading_mid, reading_end, stores_seen, reads_in_turn, Course, grown}
 use Rattle.cc_laws.proofs.Traces.{place_later}
 use Rattle.cc_laws.proofs.Writing.{asked_both}
 
@@ -101,7 +101,7 @@ later_has P stable d q n at before later s r command parts writes makes k y le o
 
 -- ---- what clients are told
 
-module _ (run : Course) (q s r p x y : ℕ) (ahead : IsAhead run.mid p x y) (share : ShareNode run.mid run.d q s r p x y) where
+module _ (run : Course) (q s r p x y : ℕ) (ahead : IsAhead run.mid p x y) (share : RoundsShare run q s r p x y) where
   open run use {mid, d}
 
   module _ (P : Value → Type 0) (stable : IsStable P) where

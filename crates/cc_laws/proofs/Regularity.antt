@@ -1,8 +1,9 @@
 -- Each collect sees the stores that ended before it began, and none goes back.
 --     Course                  what goes on from fresh nodes up to a middle, and from there to an end
+--     RoundsShare, one_shares, each_shares     each two rounds of two requests counted one node: where one of each did, where all meet
 --     seen_later              what a round stored that ended by then, a read that began later has seen
 --     stores_seen, reads_in_turn    so of stores, and of two collects
-use Rattle.std.proofs.Common.{◌≡◌, ◌⊎◌, ℕ, ◌<◌, ◌≤◌, List, [], ◌∷◌, ◌++◌, refl, sym, ap, subst, ◌∙◌, inl, inr, arith}
+use Rattle.std.proofs.Common.{◌≡◌, ◌⊎◌, ℕ, ◌<◌, ◌≤◌, true, false, List, [], ◌∷◌, ◌++◌, refl, sym, ap, subst, ◌∙◌, inl, inr, arith}
 use Rattle.std.specs.Prelude.{Option, Some, None, IsSomeAnd, ⊤}
 use Rattle.std.specs.List.{Contains, AllByRecursion}
 use Rattle.std.specs.FinMap as table
@@ -27,12 +28,15 @@ use Rattle.cc_node.proofs.FreshLaws.{fresh_lawful, after_lawful}
 use Rattle.cc_laws.specs.Clusters.{Member, Cluster, node_at, Move}
 use Rattle.cc_laws.specs.Runs.{Run, IsFreshCluster, Occurs, among_sent}
 use Rattle.cc_laws.specs.Orders.{GoesOn, IsFollowedBy}
-use Rattle.cc_laws.specs.Rounds.{Round, peers_of}
-use Rattle.cc_laws.specs.Regular.{released_events, IsAnswered, IsWriteAsk, IsStored, IsAhead, HasAtLeast, SeesWrite, Counted, HasAsked, RoundsMeet, ShareNode}
+use Rattle.cc_laws.specs.Rounds.{awaits_acks, awaits_views, Round, peers_of}
+use Rattle.cc_laws.specs.Regular.{released_events, IsAnswered, IsWriteAsk, IsStored, IsAhead, HasAtLeast, SeesWrite, RoundOf, Counted, phase_in}
+use Rattle.cc_laws.specs.Regular.{HasAsked, IsRoundFor, RoundsMeet, SharedRounds, ShareNode}
 use Rattle.cc_laws.specs.Fixed.{IsFixedCluster, Stays}
 use Rattle.cc_laws.proofs.Agreeing.{all_written, one_value}
 use Rattle.cc_laws.proofs.Lists.{all_both, all_at}
 use Rattle.cc_laws.proofs.Quorums.{rounds_meet}
+use Rattle.cc_laws.proofs.CountedAnswers.{no_views}
+use Rattle.cc_laws.proofs.OneRound.{same_counted}
 use Rattle.cc_laws.proofs.Members.{IsSound, lawful_front}
 use Rattle.cc_laws.proofs.Clustering.{Holds, IsAt, one_at, Grows, GrownAt}
 use Rattle.cc_laws.proofs.Moving.{run_holds, fresh_holds}
@@ -188,8 +192,31 @@ module _ (run : Course) where
   read_round_of p x y a read =
       answered_read p read.member (h_end.sound p read.member read.there) x y a read.op read.pending read.seen read.phase read.asked
 
+  -- any round that stored for the one request, and any that queried for the other, counted one node
+  abbrev pub RoundsShare : ℕ → ℕ → ℕ → ℕ → ℕ → ℕ → Type 0
+  RoundsShare q s r p x y =
+      (m n : Member) → IsAt mid q m → IsAt d p n
+      → (first : RoundOf m) → awaits_acks (phase_in m first) ≡ true → IsRoundFor m first s r
+      → (second : RoundOf n) → awaits_views (phase_in n second) ≡ true → IsRoundFor n second x y
+      → (peer : ℕ) × Counted m first peer × Counted n second peer
+
+  -- where one did of each, all do: there is no other
+  pub one_shares : (q s r p x y : ℕ) → ShareNode mid d q s r p x y → RoundsShare q s r p x y
+  one_shares q s r p x y share m n at at' first storing of_first second querying of_second =
+      let shared : SharedRounds m n s r x y =
+      subst (λ (k : Member). SharedRounds m k s r x y) (one_at d p p share.later n refl share.is_later at')
+      (subst (λ (k : Member). SharedRounds k share.later s r x y) (one_at mid q q share.earlier m refl share.is_earlier at) share.rounds) in (
+        shared.peer,
+        same_counted false s r q m (h_mid.sound q m at) shared.first first
+            (record { kind = no_views (phase_in m shared.first) shared.stored; asked = shared.of_first })
+            (record { kind = no_views (phase_in m first) storing; asked = of_first }) shared.peer shared.in_first,
+        same_counted true x y p n (h_end.sound p n at') shared.second second
+            (record { kind = shared.queried; asked = shared.of_second }) (record { kind = querying; asked = of_second })
+            shared.peer shared.in_second,
+      )
+
   -- where all rounds meet, both counted one node
-  pub each_shares : RoundsMeet d → (q s r p x y : ℕ) → ShareNode mid d q s r p x y
+  pub each_shares : RoundsMeet d → (q s r p x y : ℕ) → RoundsShare q s r p x y
   each_shares meet q s r p x y m n at at' stored storing of_stored read querying of_read =
       let grew = grown q m at in
       let w = grew.0 in
@@ -217,7 +244,7 @@ module _ (run : Course) where
   seen_occurs : (p x y : ℕ) (v : ViewMap) → IsAnswered d p x y (answer.Seen v) → Occurs d v
   seen_occurs p x y v has = among_sent (record { from = p; output = output.Reply x y (answer.Seen v) }) has refl
 
-  module _ (q s r p x y : ℕ) (ahead : IsAhead mid p x y) (share : ShareNode mid d q s r p x y) where
+  module _ (q s r p x y : ℕ) (ahead : IsAhead mid p x y) (share : RoundsShare q s r p x y) where
     -- what the one request had stored by then, the later one has seen
     seen_later : (m n : Member) → IsAt mid q m → IsAt d p n → (Q : Core → Type 0) (node k : ℕ) → ((e : Core) → Q e → HasAtLeast (stored_of e.ops) node k)
         → StoredRound q m s r Q → (seen : ViewMap) → ReadRound p n x y seen → HasAtLeast seen node k

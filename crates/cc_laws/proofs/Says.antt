@@ -29,7 +29,7 @@ use Rattle.cc_ops.specs.declared.pending.Reply.{Reply}
 use Rattle.cc_ops.specs.Commands.{is_writing}
 use Rattle.cc_ops.specs.Ops as ops
 use Rattle.cc_ops.specs.Ops.{Ops, Phase, Idle, Storing, Querying, StoringBack, is_idle, is_last, is_own, round_of, counted, merged, next_round, begin_round}
-use Rattle.cc_ops.specs.Ops.{with_begun, after_ask, after_reply, after_last, after_ack, after_message, begun_in, ends_query, ends_store, told, replies_in}
+use Rattle.cc_ops.specs.Ops.{with_begun, after_ask, after_reply, after_last, after_ack, after_message, begun_in, ends_query, told, replies_in}
 use Rattle.cc_ops.specs.Rounds.{first_round, line_behind}
 use Rattle.cc_node.specs.declared.made.LinkAck.{LinkAck}
 use Rattle.cc_node.specs.Core as core
@@ -37,7 +37,7 @@ use Rattle.cc_node.specs.Core.{Core, quorum, asked_of, churned, churn_told, tell
 use Rattle.cc_node.specs.Core.{handled, next, post, replies, outputs, sends, send_post, send_ack, send_replies, live_links}
 use Rattle.cc_node.specs.Node.{Node, step, after, IsLawful}
 use Rattle.cc_node.proofs.ToldLaws.{anew_more}
-use Rattle.cc_laws.specs.Rounds.{ends_round}
+use Rattle.cc_laws.specs.Rounds.{awaits_acks, lacks_one, ends_round}
 use Rattle.cc_laws.proofs.Lists.{all_both, of_some, some_if, some_of, some_or, all_there, either}
 use Rattle.cc_laws.proofs.Becoming.{of_round, of_ack, of_reply, of_begun}
 
@@ -257,7 +257,7 @@ last_replies true seen asks = each_told seen asks asks (all_there (Contains asks
 last_replies false seen asks = tt
 
 ack_replies : (b : Bool) (view : ViewMap) (others : List Asked) (phase : Phase)
-    → AllByRecursion (λ r. ((b && ends_store phase) ≡ true) × Told view others phase r) (if b then replies_in view others phase else [])
+    → AllByRecursion (λ r. (((b && awaits_acks phase) && lacks_one phase) ≡ true) × Told view others phase r) (if b then replies_in view others phase else [])
 ack_replies true view others Idle = tt
 ack_replies true view others (Storing p) = last_replies (is_last p) view (p.asked ∷ others)
 ack_replies true view others (Querying p) = tt

@@ -27,8 +27,8 @@ use Rattle.cc_laws.specs.Clusters.{Member, Cluster, with_member, accepting, IsOw
 use Rattle.cc_laws.specs.Runs.{Run, IsFreshCluster}
 use Rattle.cc_laws.specs.Fixed.{count_of, IsFixedMember, IsFixedCluster, StaysBy, Stays}
 use Rattle.cc_laws.specs.Regular.{released_events}
-use Rattle.cc_laws.specs.Rounds.{Round, peers_of}
-use Rattle.cc_laws.specs.Progress.{round_under, need_in}
+use Rattle.cc_laws.specs.Rounds.{need_in, Round, peers_of}
+use Rattle.cc_laws.specs.Progress.{round_under}
 use Rattle.cc_laws.proofs.Counting.{ended_is, round_enough}
 use Rattle.cc_laws.proofs.Lists.{all_both, all_front, all_rest, all_take, at_some, all_at, either}
 use Rattle.cc_laws.proofs.Clustering.{Holds, IsAt, each_member}

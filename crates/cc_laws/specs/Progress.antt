@@ -1,7 +1,5 @@
 -- What a node's own state shows of the round that pends, whatever brings its answers.
 --     round_in s             the pending round, if one pends, by its tag: each round has a tag of its own
---     answers_in phase       how many answers it has
---     need_in phase          how many it needs
 --     GainsAnswer s t        from one state to the next the same round has one answer more
 --     BeginsAnew s t         the pending phase begins anew: the same stage of the same asks, under the next tag, without an answer
 --     EndsRound s t          the round that pends in the one state doesn't pend in the next, and its phase doesn't begin anew
@@ -10,7 +8,7 @@ use Rattle.std.specs.Prelude.{◌≡◌, ◌≢◌, ℕ, ◌+◌, true, Option, 
 use Rattle.cc_messages.specs.declared.event.Event.{Event}
 use Rattle.cc_messages.specs.declared.event.Event.TheVariants as event
 use Rattle.cc_ops.specs.Ops.{Ops, Phase, Idle, Storing, Querying, StoringBack, pending, seen_in}
-use Rattle.cc_laws.specs.Rounds.{awaits_views}
+use Rattle.cc_laws.specs.Rounds.{awaits_views, answers_in}
 
 abbrev pub round_under : ℕ → Phase → Option ℕ
 round_under tag Idle = None
@@ -20,18 +18,6 @@ round_under tag (StoringBack p seen) = Some tag
 
 abbrev pub round_in : Ops → Option ℕ
 round_in s = round_under s.tag s.phase
-
-abbrev pub answers_in : Phase → ℕ
-answers_in Idle = 0
-answers_in (Storing p) = p.count
-answers_in (Querying p) = p.count
-answers_in (StoringBack p seen) = p.count
-
-abbrev pub need_in : Phase → ℕ
-need_in Idle = 0
-need_in (Storing p) = p.need
-need_in (Querying p) = p.need
-need_in (StoringBack p seen) = p.need
 
 pub record GainsAnswer (s t : Ops) : Type 0 where
   pub same : round_in t ≡ round_in s
@@ -53,11 +39,5 @@ pub record EndsRound (s t : Ops) : Type 0 where
   pub for_good : ¬ (BeginsAnew s t)
 
 abbrev pub IsFrom : ℕ → Event → Type 0
-IsFrom q event.Enter = ⊥
-IsFrom q event.Leave = ⊥
 IsFrom q (event.Deliver from n m) = from ≡ q
-IsFrom q (event.Acked peer n) = ⊥
-IsFrom q (event.Ask s r command) = ⊥
-IsFrom q (event.Retire other) = ⊥
-IsFrom q (event.Lapse other) = ⊥
-IsFrom q event.Snapshot = ⊥
+IsFrom q _ = ⊥

@@ -7,7 +7,7 @@
 --     HasAtLeast v q k          the view has a row of node q that is numbered k or higher
 --     SeesWrite c v q k         it is the k-th write of node q, or a later one
 --     RoundsMeet c              any two rounds that ended in the cluster counted an answer of one same node
---     ShareNode ..              so did the round that stored for one request, and the one that queried for another
+--     SharedRounds, ShareNode   so did a round that stored for one request, and one that queried for another
 use Rattle.std.specs.Prelude.{◌≡◌, ℕ, ◌+◌, ◌<◌, ◌≤◌, true, List, ◌∷◌, ◌++◌, take, Some, IsSomeAnd}
 use Rattle.std.specs.List.{Contains}
 use Rattle.std.specs.FinMap as table
@@ -87,10 +87,22 @@ HasAsked asks s r = (a : Asked) × Contains asks a × (a.session ≡ s) × (a.re
 abbrev pub IsRoundFor : (m : Member) → RoundOf m → ℕ → ℕ → Type 0
 IsRoundFor m round s r = HasAsked (pending (after (fresh m.opening) round.before).core.ops) s r
 
+-- a round that stored for request r of session s, one that queried for request y of session x, and a node that both counted
+pub record SharedRounds (m n : Member) (s r x y : ℕ) : Type 0 where
+  pub first : RoundOf m
+  pub stored : awaits_acks (phase_in m first) ≡ true
+  pub of_first : IsRoundFor m first s r
+  pub second : RoundOf n
+  pub queried : awaits_views (phase_in n second) ≡ true
+  pub of_second : IsRoundFor n second x y
+  pub peer : ℕ
+  pub in_first : Counted m first peer
+  pub in_second : Counted n second peer
+
 -- one node acknowledged what request r of session s of node q stored, and replied to the query of request y of session x of node p
-abbrev pub ShareNode : Cluster → Cluster → ℕ → ℕ → ℕ → ℕ → ℕ → ℕ → Type 0
-ShareNode mid d q s r p x y =
-    (m n : Member) → table.get mid.members q ≡ Some m → table.get d.members p ≡ Some n
-    → (first : RoundOf m) → awaits_acks (phase_in m first) ≡ true → IsRoundFor m first s r
-    → (second : RoundOf n) → awaits_views (phase_in n second) ≡ true → IsRoundFor n second x y
-    → (peer : ℕ) × Counted m first peer × Counted n second peer
+pub record ShareNode (mid d : Cluster) (q s r p x y : ℕ) : Type 0 where
+  pub earlier : Member
+  pub later : Member
+  pub is_earlier : table.get mid.members q ≡ Some earlier
+  pub is_later : table.get d.members p ≡ Some later
+  pub rounds : SharedRounds earlier later s r x y

@@ -1,88 +1,54 @@
 -- The rounds of operations: which answers a node counts, when it has as many as it needs, and whose they were.
+--     awaits_acks phase       whether the pending phase waits for acknowledgements;  lacks_one: whether one answer more is enough
+--     answers me s m          whether a message answers the pending round
 --     counts c e              the peer whose answer an event counts for the pending round, if it counts one
 --     ends_round c e          whether that is the last one that the round needs
 --     begins_anew c e         whether the pending phase begins anew: it counts from nothing then, and its old round never ends
 --     peers_along n ps es     the peers whose answers were counted for the round that pends after a list of events
 --     Round n es, peers_of    a round that ended along a list, and the peers whose answers it counted
 -- A law says that they are what the node's own state shows (Progress).
-use Rattle.std.specs.Prelude.{◌≡◌, ℕ, Bool, true, false, ◌&&◌, ◌||◌, List, [], ◌∷◌, ◌++◌, Option, Some, None, if◌then◌else◌}
+use Rattle.std.specs.Prelude.{◌≡◌, ◌==◌, ℕ, ◌+◌, Bool, true, false, ◌&&◌, ◌||◌, List, [], ◌∷◌, ◌++◌, Option, Some, None, if◌then◌else◌}
 use Rattle.std.specs.Bool.{then_some}
 use Rattle.cc_messages.specs.declared.event.Event.{Event}
 use Rattle.cc_messages.specs.declared.event.Event.TheVariants as event
 use Rattle.cc_messages.specs.declared.message.Message.{Message}
 use Rattle.cc_messages.specs.declared.message.Message.TheVariants as message
-use Rattle.cc_ops.specs.Ops.{Ops, Phase, Idle, Storing, Querying, StoringBack, is_own, ends_query, ends_store}
+use Rattle.cc_ops.specs.Ops.{Ops, Phase, Storing, StoringBack, is_own}
+pub use Rattle.cc_ops.specs.Ops.{awaits_views, answers_in, need_in}
 use Rattle.cc_node.specs.Core.{Core, asks_anew}
 use Rattle.cc_node.specs.Node.{Node, step, after}
 
--- which answers a phase waits for
-abbrev pub awaits_views : Phase → Bool
-awaits_views Idle = false
-awaits_views (Storing p) = false
-awaits_views (Querying p) = true
-awaits_views (StoringBack p seen) = false
+-- ---- the pending phase
 
 abbrev pub awaits_acks : Phase → Bool
-awaits_acks Idle = false
 awaits_acks (Storing p) = true
-awaits_acks (Querying p) = false
 awaits_acks (StoringBack p seen) = true
+awaits_acks _ = false
 
-abbrev pub counted_of : ℕ → ℕ → Message → Ops → Option ℕ
-counted_of me from (message.Enter q) s = None
-counted_of me from (message.EnterEcho c v from_joined q) s = None
-counted_of me from (message.Join q) s = None
-counted_of me from (message.JoinEcho q) s = None
-counted_of me from (message.Leave q) s = None
-counted_of me from (message.LeaveEcho q) s = None
-counted_of me from (message.Query tag q) s = None
-counted_of me from (message.QueryReply v tag q) s = then_some (is_own me tag q s && awaits_views s.phase) from
-counted_of me from (message.Store v tag q) s = None
-counted_of me from (message.StoreAck tag q) s = then_some (is_own me tag q s && awaits_acks s.phase) from
-counted_of me from (message.Snapshot c v) s = None
+abbrev pub lacks_one : Phase → Bool
+lacks_one phase = (answers_in phase + 1) == need_in phase
 
-abbrev pub ends_by : ℕ → Message → Ops → Bool
-ends_by me (message.Enter q) s = false
-ends_by me (message.EnterEcho c v from_joined q) s = false
-ends_by me (message.Join q) s = false
-ends_by me (message.JoinEcho q) s = false
-ends_by me (message.Leave q) s = false
-ends_by me (message.LeaveEcho q) s = false
-ends_by me (message.Query tag q) s = false
-ends_by me (message.QueryReply v tag q) s = is_own me tag q s && ends_query s.phase
-ends_by me (message.Store v tag q) s = false
-ends_by me (message.StoreAck tag q) s = is_own me tag q s && ends_store s.phase
-ends_by me (message.Snapshot c v) s = false
+-- ---- one event
+
+-- it replies to what the round asks, or acknowledges what it stores: to this node, under the round's tag
+abbrev pub answers : ℕ → Ops → Message → Bool
+answers me s (message.QueryReply v tag q) = is_own me tag q s && awaits_views s.phase
+answers me s (message.StoreAck tag q) = is_own me tag q s && awaits_acks s.phase
+answers me s _ = false
 
 abbrev pub counts : Core → Event → Option ℕ
-counts c event.Enter = None
-counts c event.Leave = None
-counts c (event.Deliver from n m) = counted_of c.me from m c.ops
-counts c (event.Acked peer n) = None
-counts c (event.Ask s r command) = None
-counts c (event.Retire q) = None
-counts c (event.Lapse q) = None
-counts c event.Snapshot = None
+counts c (event.Deliver from n m) = then_some (answers c.me c.ops m) from
+counts c _ = None
 
 abbrev pub ends_round : Core → Event → Bool
-ends_round c event.Enter = false
-ends_round c event.Leave = false
-ends_round c (event.Deliver from n m) = ends_by c.me m c.ops
-ends_round c (event.Acked peer n) = false
-ends_round c (event.Ask s r command) = false
-ends_round c (event.Retire q) = false
-ends_round c (event.Lapse q) = false
-ends_round c event.Snapshot = false
+ends_round c (event.Deliver from n m) = answers c.me c.ops m && lacks_one c.ops.phase
+ends_round c _ = false
 
 abbrev pub begins_anew : Core → Event → Bool
-begins_anew c event.Enter = false
-begins_anew c event.Leave = false
 begins_anew c (event.Deliver from n m) = asks_anew c from n m
-begins_anew c (event.Acked peer n) = false
-begins_anew c (event.Ask s r command) = false
-begins_anew c (event.Retire q) = false
-begins_anew c (event.Lapse q) = false
-begins_anew c event.Snapshot = false
+begins_anew c _ = false
+
+-- ---- a list of events
 
 -- one more, where there is one
 abbrev pub with_peer : Option ℕ → List ℕ → List ℕ

@@ -20,24 +20,15 @@ use Rattle.cc_ops.specs.Ops.{seen_in}
 use Rattle.cc_node.specs.Node.{Node}
 
 abbrev pub in_message : Message → Option ViewMap
-in_message (message.Enter q) = None
 in_message (message.EnterEcho c v from_joined q) = Some v
-in_message (message.Join q) = None
-in_message (message.JoinEcho q) = None
-in_message (message.Leave q) = None
-in_message (message.LeaveEcho q) = None
-in_message (message.Query tag q) = None
 in_message (message.QueryReply v tag q) = Some v
 in_message (message.Store v tag q) = Some v
-in_message (message.StoreAck tag q) = None
 in_message (message.Snapshot c v) = Some v
+in_message _ = None
 
 abbrev pub in_answer : Answer → Option ViewMap
-in_answer answer.Stored = None
 in_answer (answer.Seen v) = Some v
-in_answer (answer.Max x) = None
-in_answer (answer.Flag b) = None
-in_answer (answer.Set s) = None
+in_answer _ = None
 
 abbrev pub in_output : Output → Option ViewMap
 in_output (output.Send to n m) = in_message m
@@ -45,14 +36,8 @@ in_output (output.Ack to n) = None
 in_output (output.Reply s r a) = in_answer a
 
 abbrev pub in_event : Event → Option ViewMap
-in_event event.Enter = None
-in_event event.Leave = None
 in_event (event.Deliver from n m) = in_message m
-in_event (event.Acked peer n) = None
-in_event (event.Ask s r command) = None
-in_event (event.Retire q) = None
-in_event (event.Lapse q) = None
-in_event event.Snapshot = None
+in_event _ = None
 
 pub data Shows (n : Node) (v : ViewMap) : Type 0 where
   held : v ≡ n.core.ops.view → Shows n v

@@ -5,8 +5,8 @@ ghost use Rattle.cc_messages.specs.declared.event.Event.{Event};
 ghost use Rattle.cc_node.specs.Core.{Core, next};
 ghost use Rattle.cc_node.specs.Node.{after};
 ghost use Rattle.cc_node.specs.Opening.{Opening, fresh};
-ghost use Rattle.cc_laws.specs.Progress.{answers_in, need_in, GainsAnswer, BeginsAnew, EndsRound, IsFrom};
-ghost use Rattle.cc_laws.specs.Rounds.{counts, ends_round, begins_anew, peers_along, Round, peers_of};
+ghost use Rattle.cc_laws.specs.Progress.{GainsAnswer, BeginsAnew, EndsRound, IsFrom};
+ghost use Rattle.cc_laws.specs.Rounds.{answers_in, need_in, counts, ends_round, begins_anew, peers_along, Round, peers_of};
 
 /// The answers that are said to be counted are those that the node's own state shows. An event counts an answer of a peer
 /// exactly where it delivers a message of this peer, and by it the pending round has one answer more, or pends no more

@@ -1,15 +1,16 @@
 -- Ids in order as a set: one more, and all of a list.
-use Rattle.std.proofs.Common.{◌≡◌, ℕ, suc, ◌+◌, ◌<◌, ◌≤◌, List, ◌∷◌, map, length, get_or, drop, drop-cons, add-one, refl, sym, ap, ◌∙◌, arith}
+use Rattle.std.proofs.Common.{◌≡◌, ℕ, suc, ◌+◌, ◌<◌, ◌≤◌, Bool, true, false, inl, inr, List, [], ◌∷◌, ◌++◌, map, length, get_or, take, drop, drop-cons, add-one, refl, sym, ap, ◌∙◌, arith}
 use Rattle.std.specs.List.{insert}
-use Rattle.std.proofs.lemmas.Bool.{or_left}
+use Rattle.std.specs.Prelude.{◌↔◌}
+use Rattle.std.proofs.lemmas.Bool.{or_left, cases_lt, both_ways}
 use Rattle.std.proofs.Math.ListN.{get_or-map}
-use Rattle.std.proofs.lemmas.List.{length-map}
+use Rattle.std.proofs.lemmas.List.{length-map, take_more}
 use Rattle.std.proofs.lemmas.List.Edits.{length-insert}
 use Rattle.cc_views.specs.NatLists.{held}
 use Rattle.cc_views.specs.NatSets as set
-use Rattle.cc_views.specs.NatSets.{NatSet, marked, contains-insert_all, insert_all-insert, len_within}
+use Rattle.cc_views.specs.NatSets.{NatSet, marked, contains-insert_all, insert_all-insert, insert_all-append, len_within}
 use Rattle.cc_views.specs.Tables.{IsAt, IsGapFor, table_of, table_of-insert, rising-insert, len-table_of, len-insert_gap}
-use Rattle.cc_links.specs.KnownIds.{AreKnown}
+use Rattle.cc_links.specs.KnownIds.{AreKnown, FillsUp}
 
 pub len_known : {ids : List ℕ} {s : NatSet} → AreKnown ids → table_of marked ids ≡ s → set.len s ≤ 256
 len_known {ids} known view = omega (arith, len-table_of marked ids known.rising, known.fits, ap set.len view)
@@ -54,3 +55,41 @@ pub next_named : {Row : Type 0} (f : Row → ℕ) (s all : NatSet) (rows : List 
     → set.insert_all s (drop i (map f rows)) ≡ all → set.insert_all (set.insert s (f row)) (drop (i + 1) (map f rows)) ≡ all
 next_named f s all rows i row lt is h =
     next_id s all (map f rows) i (f row) (omega (arith, lt, length-map rows f)) (ap f is ∙ sym (get_or-map f rows i row)) h
+
+-- ---- those that were taken so far
+
+pub front_number : (s before : NatSet) (ids : List ℕ) (i id other : ℕ) → i < length ids → id ≡ get_or ids i other
+    → before ≡ set.insert_all s (take i ids) → set.insert before id ≡ set.insert_all s (take (i + 1) ids)
+front_number s before ids i id other lt is h =
+    ap (λ (t : NatSet). set.insert t id) h ∙ sym (insert_all-insert s id (take i ids)) ∙ sym (insert_all-append s (take i ids) (id ∷ []))
+    ∙ ap (set.insert_all s) (ap (λ (q : ℕ). take i ids ++ q ∷ []) is ∙ sym (take_more ids i other lt))
+
+pub front_id : (s before : NatSet) (ids : List ℕ) (i id : ℕ) → i < length ids → id ≡ get_or ids i id
+    → before ≡ set.insert_all s (take i ids) → set.insert before id ≡ set.insert_all s (take (i + 1) ids)
+front_id s before ids i id lt is h = front_number s before ids i id id lt is h
+
+pub front_named : {Row : Type 0} (f : Row → ℕ) (s before : NatSet) (rows : List Row) (i : ℕ) (row : Row) → i < length rows → row ≡ get_or rows i row
+    → before ≡ set.insert_all s (take i (map f rows)) → set.insert before (f row) ≡ set.insert_all s (take (i + 1) (map f rows))
+front_named f s before rows i row lt is h =
+    front_id s before (map f rows) i (f row) (omega (arith, lt, length-map rows f)) (ap f is ∙ sym (get_or-map f rows i row)) h
+
+-- the next one is one too many
+pub fills_up : (s before after : NatSet) (ids : List ℕ) (i id : ℕ) (fits : Bool) → i < length ids → before ≡ set.insert_all s (take i ids)
+    → set.insert before id ≡ set.insert_all s (take (i + 1) ids) → ((fits ≡ true) ↔ (set.len (set.insert before id) ≤ 256)) → fits ≡ false
+    → after ≡ before → FillsUp s ids after
+fills_up s before after ids i id fits lt front next tells misses same = record {
+  count = i;
+  within = lt;
+  is = same ∙ front;
+  over = elim (cases_lt 256 (set.len (set.insert_all s (take (i + 1) ids)))) [
+    | inl more ↦ more
+    | inr few ↦ absurd (both_ways fits misses (tells.1 (omega (arith, few, ap set.len next))))
+  ];
+}
+
+pub fills_named : {Row : Type 0} (f : Row → ℕ) (s before after : NatSet) (rows : List Row) (i : ℕ) (row : Row) (fits : Bool) → i < length rows
+    → row ≡ get_or rows i row → before ≡ set.insert_all s (take i (map f rows)) → ((fits ≡ true) ↔ (set.len (set.insert before (f row)) ≤ 256))
+    → fits ≡ false → after ≡ before → FillsUp s (map f rows) after
+fills_named f s before after rows i row fits lt is front tells misses same =
+    fills_up s before after (map f rows) i (f row) fits (omega (arith, lt, length-map rows f)) front (front_named f s before rows i row lt is front)
+    tells misses same

@@ -1,8 +1,10 @@
 -- The ids of links and of a message together, and how many they are.
+--     AreKnown             ids in order, and no more than there is room for
+--     FillsUp              what comes of some ids that don't all fit: those in front of the first one that is one too many
 --     ids_of               the peers of links, as a set
 --     peers_of-rows_of     the peers of rows
 --     len-add_all          the links after a row for each of some ids are as many as those ids and the peers together
-use Rattle.std.proofs.Common.{◌≡◌, ℕ, ◌≤◌, ◌||◌, List, [], ◌∷◌, map, length, refl, sym, ap, ◌∙◌, arith}
+use Rattle.std.proofs.Common.{◌≡◌, ℕ, ◌+◌, ◌<◌, ◌≤◌, ◌||◌, List, [], ◌∷◌, map, length, take, refl, sym, ap, ◌∙◌, arith}
 use Rattle.std.specs.Prelude.{nat_eq}
 use Rattle.std.specs.List.{list_any}
 use Rattle.std.specs.FinMap as table
@@ -15,10 +17,15 @@ use Rattle.cc_links.specs.Links.{Link, Links, add_all}
 use Rattle.cc_links.specs.Rows.{row_of, rows_of, peers_of}
 use Rattle.cc_links.specs.LinkLaws.{contains-add_all}
 
--- ids in order, and no more than there is room for
 pub record AreKnown (ids : List ℕ) : Type 0 where
   pub rising : IsRising marked ids
   pub fits : length ids ≤ known_limit
+
+pub record FillsUp (old : NatSet) (ids : List ℕ) (new : NatSet) : Type 0 where
+  pub count : ℕ
+  pub within : count < length ids
+  pub is : new ≡ set.insert_all old (take count ids)
+  pub over : known_limit < set.len (set.insert_all old (take (count + 1) ids))
 
 abbrev pub ids_of : Links → NatSet
 ids_of ls = set.from_list (table.keys ls)

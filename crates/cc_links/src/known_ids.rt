@@ -5,6 +5,7 @@ ghost use Rattle.cc_views.specs.Limits.{known_limit};
 ghost use Rattle.cc_views.specs.NatSets as set;
 ghost use Rattle.cc_views.specs.NatSets.{marked};
 ghost use Rattle.cc_views.specs.Tables.{IsRising, IsPlaceOf};
+ghost use Rattle.cc_links.specs.KnownIds.{FillsUp};
 ghost use Rattle.cc_links.specs.Rows.{nodes_of, peers_of};
 
 use crate::link_row::LinkRow;
@@ -69,10 +70,11 @@ impl KnownIds {
         }
     }
 
-    /// Adds some ids. False where they are too many, and then only some of them are added.
+    /// Adds some ids. False where they are too many: then those are added that come before the first one too many.
     pub fn add_all(&mut self, ids: &[NodeId]) -> bool
         ensures fits { IsTrue result ↔ (set.len (set.insert_all self.old ids.now) ≤ known_limit) }
         ensures added { IsTrue result → self.new ≡ set.insert_all self.old ids.now }
+        ensures full { IsFalse result → FillsUp self.old ids.now self.new }
     {
         // The proof of the loop then knows the room.
         let _ = &self.numbers;
@@ -84,12 +86,12 @@ impl KnownIds {
         true
     }
 
-    /// Adds the ids with these numbers, each from 1 on. False where they are too many, and then only some of them are
-    /// added.
+    /// Adds the ids with these numbers, each from 1 on. False where they are too many, as for `add_all`.
     pub fn add_numbers(&mut self, numbers: &[u32]) -> bool
         requires { ¬ (Contains numbers.now 0) }
         ensures fits { IsTrue result ↔ (set.len (set.insert_all self.old numbers.now) ≤ known_limit) }
         ensures added { IsTrue result → self.new ≡ set.insert_all self.old numbers.now }
+        ensures full { IsFalse result → FillsUp self.old numbers.now self.new }
     {
         // The proof of the loop then knows the room.
         let _ = &self.numbers;
@@ -101,10 +103,11 @@ impl KnownIds {
         true
     }
 
-    /// Adds the nodes of a view's rows. False where they are too many, and then only some of them are added.
+    /// Adds the nodes of a view's rows. False where they are too many, as for `add_all`.
     pub fn add_nodes(&mut self, rows: &[Row]) -> bool
         ensures fits { IsTrue result ↔ (set.len (set.insert_all self.old (nodes_of rows.now)) ≤ known_limit) }
         ensures added { IsTrue result → self.new ≡ set.insert_all self.old (nodes_of rows.now) }
+        ensures full { IsFalse result → FillsUp self.old (nodes_of rows.now) self.new }
     {
         // The proof of the loop then knows the room.
         let _ = &self.numbers;
@@ -116,10 +119,11 @@ impl KnownIds {
         true
     }
 
-    /// Adds the peers of links. False where they are too many, and then only some of them are added.
+    /// Adds the peers of links. False where they are too many, as for `add_all`.
     pub fn add_peers(&mut self, rows: &[LinkRow]) -> bool
         ensures fits { IsTrue result ↔ (set.len (set.insert_all self.old (peers_of rows.now)) ≤ known_limit) }
         ensures added { IsTrue result → self.new ≡ set.insert_all self.old (peers_of rows.now) }
+        ensures full { IsFalse result → FillsUp self.old (peers_of rows.now) self.new }
     {
         // The proof of the loop then knows the room.
         let _ = &self.numbers;

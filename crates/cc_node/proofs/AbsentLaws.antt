@@ -44,13 +44,13 @@ unfolding next
 lapse_next c q l e = ap (λ (ls : Links). record c { links = ls; posts = c.posts + 0 }) (lapse_is_ack c.posts q c.links l e)
 
 pub anew_alone : (c : Core) (from n : ℕ) (d : ChangeSets) (v : ViewMap) → asks_anew c from n (message.Snapshot d v) ≡ true
-    → AsksAnewAlone (ops.merged v c.ops) (next c (event.Deliver from n (message.Snapshot d v))).ops
+    → (let after = next c (event.Deliver from n (message.Snapshot d v)) in AsksAnewAlone (quorum after) (ops.merged v c.ops) after.ops)
 unfolding next
 anew_alone c from n d v asks =
     let m = message.Snapshot d v in
     kept (asks_anew c from n m) _ (ops.merged v c.ops) asks
   where
-    kept : (b : Bool) (q : ℕ) (s : ops.Ops) → b ≡ true → AsksAnewAlone s (anew_if b q s)
+    kept : (b : Bool) (q : ℕ) (s : ops.Ops) → b ≡ true → AsksAnewAlone q s (anew_if b q s)
     kept true q s e = anew_keeps q s
     kept false q s e = cc
 

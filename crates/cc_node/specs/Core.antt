@@ -108,14 +108,9 @@ asked_of s r command = record { session = s; request = r; command = command }
 
 -- the asks that an event begins: itself, or the first round of those that waited for the last acknowledgement
 abbrev pub begun : Core → Event → List Asked
-begun c event.Enter = []
-begun c event.Leave = []
 begun c (event.Deliver from n m) = ops.begun_by c.me m c.ops
-begun c (event.Acked peer n) = []
 begun c (event.Ask s r command) = ops.begun_by_ask (asked_of s r command) c.ops
-begun c (event.Retire q) = []
-begun c (event.Lapse q) = []
-begun c event.Snapshot = []
+begun c _ = []
 
 -- the state after an event, its post not yet counted
 abbrev pub handled : Core → Event → Core
@@ -156,37 +151,23 @@ abbrev pub post : Core → Event → Option Message
 post c event.Enter = Some (message.Enter c.me)
 post c event.Leave = Some (message.Leave c.me)
 post c (event.Deliver from n m) = option_or (post_of_snapshot c from n m) (post_to m c (handled c (event.Deliver from n m)))
-post c (event.Acked peer n) = None
 post c (event.Ask s r command) =
     ops.post_of_round c.me (begun c (event.Ask s r command)) (handled c (event.Ask s r command)).ops
-post c (event.Retire q) = None
-post c (event.Lapse q) = None
 post c event.Snapshot = Some (message.Snapshot c.churn.changes c.ops.view)
+post c _ = None
 
 unfoldable pub next : Core → Event → Core
 next c e = record (handled c e) { posts = c.posts + option_len (post c e) }
 
 -- the acknowledgement of a delivery
 abbrev pub ack : Event → Option LinkAck
-ack event.Enter = None
-ack event.Leave = None
 ack (event.Deliver from n m) = Some (record { to = from; number = n })
-ack (event.Acked peer n) = None
-ack (event.Ask s r command) = None
-ack (event.Retire q) = None
-ack (event.Lapse q) = None
-ack event.Snapshot = None
+ack _ = None
 
 -- what clients are told
 abbrev pub replies : Core → Event → List Reply
-replies c event.Enter = []
-replies c event.Leave = []
 replies c (event.Deliver from n m) = ops.replies_of c.me m c.ops
-replies c (event.Acked peer n) = []
-replies c (event.Ask s r command) = []
-replies c (event.Retire q) = []
-replies c (event.Lapse q) = []
-replies c event.Snapshot = []
+replies c _ = []
 
 abbrev pub made : Core → Event → Made
 made c e = record { ack = ack e; post = post c e; answers = replies c e }

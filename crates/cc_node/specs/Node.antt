@@ -35,14 +35,8 @@ add (Some m) o = kept.add m o
 
 -- beginning a request forgets the session's kept answer
 abbrev pub forget_asked : Event → Outbox → Outbox
-forget_asked event.Enter o = o
-forget_asked event.Leave o = o
-forget_asked (event.Deliver from n m) o = o
-forget_asked (event.Acked peer n) o = o
 forget_asked (event.Ask s r command) o = forget s o
-forget_asked (event.Retire q) o = o
-forget_asked (event.Lapse q) o = o
-forget_asked event.Snapshot o = o
+forget_asked _ o = o
 
 unfoldable pub step : Node → Event → Node
 step n e = record {

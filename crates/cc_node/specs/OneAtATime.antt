@@ -48,32 +48,20 @@ acked_alone (Querying p) s = s
 acked_alone (StoringBack p seen) s = if is_last p then record s { phase = Idle; others = [] } else record s { phase = StoringBack (counted p) seen }
 
 abbrev pub ops_alone : ℕ → ℕ → Message → Ops → Ops
-ops_alone me quorum (message.Enter q) s = s
 ops_alone me quorum (message.EnterEcho c v from_joined q) s = merged v s
-ops_alone me quorum (message.Join q) s = s
-ops_alone me quorum (message.JoinEcho q) s = s
-ops_alone me quorum (message.Leave q) s = s
-ops_alone me quorum (message.LeaveEcho q) s = s
-ops_alone me quorum (message.Query tag q) s = s
 ops_alone me quorum (message.QueryReply v tag q) s = if is_own me tag q s then after_reply quorum v s.phase s else s
 ops_alone me quorum (message.Store v tag q) s = merged v s
 ops_alone me quorum (message.StoreAck tag q) s = if is_own me tag q s then acked_alone s.phase s else s
 ops_alone me quorum (message.Snapshot c v) s = merged v s
+ops_alone me quorum _ s = s
 
 -- before and after are the states around the message. Only a node that has joined serves others
 abbrev pub answer_alone : ℕ → Bool → Message → Ops → Ops → Option Message
-answer_alone me is_joined (message.Enter q) before after = None
-answer_alone me is_joined (message.EnterEcho c v from_joined q) before after = None
-answer_alone me is_joined (message.Join q) before after = None
-answer_alone me is_joined (message.JoinEcho q) before after = None
-answer_alone me is_joined (message.Leave q) before after = None
-answer_alone me is_joined (message.LeaveEcho q) before after = None
 answer_alone me is_joined (message.Query tag q) before after = then_some is_joined (message.QueryReply after.view tag q)
 answer_alone me is_joined (message.QueryReply v tag q) before after =
     then_some (is_own me tag q before && ends_query before.phase) (message.Store after.view after.tag me)
 answer_alone me is_joined (message.Store v tag q) before after = then_some is_joined (message.StoreAck tag q)
-answer_alone me is_joined (message.StoreAck tag q) before after = None
-answer_alone me is_joined (message.Snapshot c v) before after = None
+answer_alone me is_joined _ before after = None
 
 -- ---- the core
 
@@ -114,11 +102,9 @@ abbrev pub post_alone : Core → Event → Option Message
 post_alone c event.Enter = Some (message.Enter c.me)
 post_alone c event.Leave = Some (message.Leave c.me)
 post_alone c (event.Deliver from n m) = option_or (told_post_alone c from n m) (post_to_alone m c (handled_alone c (event.Deliver from n m)))
-post_alone c (event.Acked peer n) = None
 post_alone c (event.Ask s r command) = Some (first_post c.me (asked_of s r command) (handled_alone c (event.Ask s r command)).ops)
-post_alone c (event.Retire q) = None
-post_alone c (event.Lapse q) = None
 post_alone c event.Snapshot = Some (message.Snapshot c.churn.changes c.ops.view)
+post_alone c _ = None
 
 unfoldable pub next_alone : Core → Event → Core
 next_alone c e = record (handled_alone c e) { posts = c.posts + option_len (post_alone c e) }

@@ -84,14 +84,9 @@ outbox_full c e = then_some (is_some (post c e) && ((c.posts - lowest c) == post
 
 -- of the tables only the row that the event is about can change; what is heard may rise by more than one
 abbrev pub row_overruns : Core → Core → Event → Bool
-row_overruns c d event.Enter = false
-row_overruns c d event.Leave = false
 row_overruns c d (event.Deliver from n m) = nat_lt counter_limit (links.heard_from from d.links)
-row_overruns c d (event.Acked peer n) = false
 row_overruns c d (event.Ask s r command) = overruns (last_request c.sessions s) (last_request d.sessions s)
-row_overruns c d (event.Retire q) = false
-row_overruns c d (event.Lapse q) = false
-row_overruns c d event.Snapshot = false
+row_overruns c d _ = false
 
 abbrev pub any_overruns : Core → Core → Event → Bool
 any_overruns c d e =

@@ -10,14 +10,8 @@ use Rattle.cc_node.specs.Core.{asked_of, begun}
 use Rattle.cc_node.specs.Node.{Node, step}
 
 abbrev pub asked_by : Event → List Asked
-asked_by event.Enter = []
-asked_by event.Leave = []
-asked_by (event.Deliver from n m) = []
-asked_by (event.Acked peer n) = []
 asked_by (event.Ask s r command) = asked_of s r command ∷ []
-asked_by (event.Retire q) = []
-asked_by (event.Lapse q) = []
-asked_by event.Snapshot = []
+asked_by _ = []
 
 abbrev pub asked_along : List Event → List Asked
 asked_along [] = []

@@ -150,9 +150,10 @@ pub fn others_stay()
 {}
 
 /// A phase that begins anew is no new operation: beside the union and the merge of the snapshot it changes the tag, the
-/// need and the count alone.
+/// need and the count alone. It needs the quorum of then, and has no answer.
 pub fn asks_anew_alone()
     ensures { (c : Core) (from n : ℕ) (d : ChangeSets) (v : ViewMap) → asks_anew c from n (message.Snapshot d v) ≡ true
-        → AsksAnewAlone (merged v c.ops) (next c (event.Deliver from n (message.Snapshot d v))).ops
+        → AsksAnewAlone (quorum (next c (event.Deliver from n (message.Snapshot d v)))) (merged v c.ops)
+        (next c (event.Deliver from n (message.Snapshot d v))).ops
         × ((next c (event.Deliver from n (message.Snapshot d v))).sessions ≡ c.sessions) }
 {}

@@ -8,7 +8,7 @@ ghost use Rattle.cc_views.specs.Limits.{known_limit};
 ghost use Rattle.cc_views.specs.NatSets as set;
 ghost use Rattle.cc_links.specs.Links as links;
 ghost use Rattle.cc_node.specs.Opening.{told, ids_of, IsOpening};
-ghost use Rattle.cc_node.specs.OpeningRules.{Breaks};
+ghost use Rattle.cc_node.specs.OpeningRules.{Breaks, KeepsEarlier};
 ghost use Rattle.cc_node.specs.declared.opening.Fresh.TheVariants as faults;
 
 use cc_changes::{Changes, Fraction, IdSet};
@@ -47,6 +47,7 @@ impl Opening<'_> {
     pub fn broken_rule(&self) -> Option<OpeningRule>
         ensures none { IsNone result ↔ IsOpening (told self.now) }
         ensures broken { IfSome result (Breaks (told self.now)) }
+        ensures first { IfSome result (KeepsEarlier (told self.now)) }
     {
         if !self.beta.is_share() {
             return Some(OpeningRule::Beta);
@@ -227,6 +228,11 @@ pub enum Fresh {
 }
 
 impl fmt::Display for Fresh {
+    ghost use Rattle.std.specs.Prelude.{Some};
+    ghost use Rattle.cc_node.specs.OpeningRules.{fault_text};
+
+    ghost output = { λ fault. Some (fault_text fault) };
+
     fn fmt<W: fmt::Write>(&self, f: &mut fmt::Formatter<W>) -> fmt::Result {
         match self {
             Fresh::BadOpening => f.write_str("BadOpening"),

@@ -6,6 +6,10 @@ use std::fmt;
 pub struct SetFull;
 
 impl fmt::Display for SetFull {
+    ghost use Rattle.std.specs.Prelude.{Some, codes};
+
+    ghost output = { λ _. Some (codes "the set is full") };
+
     fn fmt<W: fmt::Write>(&self, f: &mut fmt::Formatter<W>) -> fmt::Result {
         f.write_str("the set is full")
     }

@@ -2,6 +2,7 @@
 --     Phase, Ops                   how far the pending round has come, with its first ask; the view, the own value under its
 --                                  number, the tag, how many asks a round has at most, the phase, the others of its round, and
 --                                  the asks that wait behind it
+--     awaits_views, answers_in, need_in     what the pending round waits for, how many answers it has, and how many it needs
 --     begin_round me quorum asks s a new round begins of these asks, if there are any; else nothing is pending
 --     after_ask me quorum a s      it begins where none is pending; else the ask waits
 --     after_message me quorum m s  what a message makes of it; the last acknowledgement lets the first round of the line begin
@@ -60,16 +61,30 @@ nothing_done share = record { view = table.empty; number = 0; mine = nothing_sto
 
 abbrev pub is_idle : Phase → Bool
 is_idle Idle = true
-is_idle (Storing p) = false
-is_idle (Querying p) = false
-is_idle (StoringBack p seen) = false
+is_idle _ = false
+
+-- whether the operation waits for the views of others
+abbrev pub awaits_views : Phase → Bool
+awaits_views (Querying p) = true
+awaits_views _ = false
+
+-- how many answers the pending round has, and how many it needs
+abbrev pub answers_in : Phase → ℕ
+answers_in Idle = 0
+answers_in (Storing p) = p.count
+answers_in (Querying p) = p.count
+answers_in (StoringBack p seen) = p.count
+
+abbrev pub need_in : Phase → ℕ
+need_in Idle = 0
+need_in (Storing p) = p.need
+need_in (Querying p) = p.need
+need_in (StoringBack p seen) = p.need
 
 -- the view that is stored back
 abbrev pub seen_in : Phase → Option ViewMap
-seen_in Idle = None
-seen_in (Storing p) = None
-seen_in (Querying p) = None
 seen_in (StoringBack p seen) = Some seen
+seen_in _ = None
 
 -- a round of an operation, of which no answer has come
 abbrev pub round_of : ℕ → Asked → Pending
@@ -136,13 +151,11 @@ is_own me tag q s = (q == me) && (tag == s.tag)
 
 -- one more reply to the query: with the last one, what is seen by then is stored back
 abbrev pub after_reply : ℕ → ViewMap → Phase → Ops → Ops
-after_reply quorum v Idle s = s
-after_reply quorum v (Storing p) s = s
 after_reply quorum v (Querying p) s =
     if is_last p
     then next_round (StoringBack (round_of quorum p.asked) (merge s.view v)) (merged v s)
     else record (merged v s) { phase = Querying (counted p) }
-after_reply quorum v (StoringBack p seen) s = s
+after_reply quorum v _ s = s
 
 -- the round is done: the first one of the asks that wait begins
 abbrev pub after_last : ℕ → ℕ → Ops → Ops
@@ -163,17 +176,12 @@ ends_store (Querying p) = false
 ends_store (StoringBack p seen) = is_last p
 
 abbrev pub after_message : ℕ → ℕ → Message → Ops → Ops
-after_message me quorum (message.Enter q) s = s
 after_message me quorum (message.EnterEcho c v from_joined q) s = merged v s
-after_message me quorum (message.Join q) s = s
-after_message me quorum (message.JoinEcho q) s = s
-after_message me quorum (message.Leave q) s = s
-after_message me quorum (message.LeaveEcho q) s = s
-after_message me quorum (message.Query tag q) s = s
 after_message me quorum (message.QueryReply v tag q) s = if is_own me tag q s then after_reply quorum v s.phase s else s
 after_message me quorum (message.Store v tag q) s = merged v s
 after_message me quorum (message.StoreAck tag q) s = if is_own me tag q s then after_ack me quorum s.phase s else s
 after_message me quorum (message.Snapshot c v) s = merged v s
+after_message me quorum _ s = s
 
 -- the asks that begin with one more acknowledgement
 abbrev pub begun_in : Phase → Ops → List Asked
@@ -181,40 +189,23 @@ begun_in phase s = if ends_store phase then first_round s.share s.line else []
 
 -- the asks that a message lets begin
 abbrev pub begun_by : ℕ → Message → Ops → List Asked
-begun_by me (message.Enter q) s = []
-begun_by me (message.EnterEcho c v from_joined q) s = []
-begun_by me (message.Join q) s = []
-begun_by me (message.JoinEcho q) s = []
-begun_by me (message.Leave q) s = []
-begun_by me (message.LeaveEcho q) s = []
-begun_by me (message.Query tag q) s = []
-begun_by me (message.QueryReply v tag q) s = []
-begun_by me (message.Store v tag q) s = []
 begun_by me (message.StoreAck tag q) s = if is_own me tag q s then begun_in s.phase s else []
-begun_by me (message.Snapshot c v) s = []
+begun_by me _ s = []
 
 -- whether a reply ends the query
 abbrev pub ends_query : Phase → Bool
-ends_query Idle = false
-ends_query (Storing p) = false
 ends_query (Querying p) = is_last p
-ends_query (StoringBack p seen) = false
+ends_query _ = false
 
 -- before and after are the states around the message. Only a node that has joined serves others
 abbrev pub post_of : ℕ → Bool → Message → Ops → Ops → Option Message
-post_of me is_joined (message.Enter q) before after = None
-post_of me is_joined (message.EnterEcho c v from_joined q) before after = None
-post_of me is_joined (message.Join q) before after = None
-post_of me is_joined (message.JoinEcho q) before after = None
-post_of me is_joined (message.Leave q) before after = None
-post_of me is_joined (message.LeaveEcho q) before after = None
 post_of me is_joined (message.Query tag q) before after = then_some is_joined (message.QueryReply after.view tag q)
 post_of me is_joined (message.QueryReply v tag q) before after =
     then_some (is_own me tag q before && ends_query before.phase) (message.Store after.view after.tag me)
 post_of me is_joined (message.Store v tag q) before after = then_some is_joined (message.StoreAck tag q)
 post_of me is_joined (message.StoreAck tag q) before after =
     post_of_round me (begun_by me (message.StoreAck tag q) before) after
-post_of me is_joined (message.Snapshot c v) before after = None
+post_of me is_joined _ before after = None
 
 -- the answer to an ask, read from that view
 abbrev pub told : ViewMap → Asked → Reply
@@ -228,17 +219,8 @@ replies_in view others (Querying p) = []
 replies_in view others (StoringBack p seen) = if is_last p then map (told seen) (p.asked ∷ others) else []
 
 abbrev pub replies_of : ℕ → Message → Ops → List Reply
-replies_of me (message.Enter q) s = []
-replies_of me (message.EnterEcho c v from_joined q) s = []
-replies_of me (message.Join q) s = []
-replies_of me (message.JoinEcho q) s = []
-replies_of me (message.Leave q) s = []
-replies_of me (message.LeaveEcho q) s = []
-replies_of me (message.Query tag q) s = []
-replies_of me (message.QueryReply v tag q) s = []
-replies_of me (message.Store v tag q) s = []
 replies_of me (message.StoreAck tag q) s = if is_own me tag q s then replies_in s.view s.others s.phase else []
-replies_of me (message.Snapshot c v) s = []
+replies_of me _ s = []
 
 -- the pending phase of the same ask, of which no answer has come; what is stored back stays
 abbrev pub again : ℕ → Phase → Phase

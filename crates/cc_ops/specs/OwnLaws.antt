@@ -26,7 +26,7 @@ use Rattle.cc_ops.specs.WaitingLaws.{written_last, written_both, no_writes}
 use Rattle.cc_ops.specs.Ops.{Ops, Phase, Idle, Storing, Querying, StoringBack, is_idle, seen_in, round_of, counted, is_last, is_own, merged}
 use Rattle.cc_ops.specs.Ops.{next_round, again, anew, begin_round, with_own_row, with_written, after_ask, after_reply, after_last, after_ack}
 use Rattle.cc_ops.specs.Ops.{after_message, begun_by_ask, begun_in, begun_by, told, replies_in, replies_of, asked_in, pending, unanswered}
-use Rattle.cc_ops.specs.Ops.{mine_at_last}
+use Rattle.cc_ops.specs.Ops.{mine_at_last, awaits_views, answers_in, need_in}
 
 -- ---- a round begins
 
@@ -356,8 +356,8 @@ message_ends me quorum (message.Snapshot c v) s = inl (refl, refl)
 
 -- ---- a phase that begins anew
 
--- it is the same round's: of what an `Ops` has, the need and the count change, and the tag, which rises by one
-pub record AsksAnewAlone (before after : Ops) : Type 0 where
+-- It is the same round's, and asks the same: of what an `Ops` has, the need and the count change, and the tag, which rises by one.
+pub record AsksAnewAlone (quorum : ℕ) (before after : Ops) : Type 0 where
   pub view : after.view ≡ before.view
   pub number : after.number ≡ before.number
   pub mine : after.mine ≡ before.mine
@@ -368,6 +368,10 @@ pub record AsksAnewAlone (before after : Ops) : Type 0 where
   pub asked : asked_in after.phase ≡ asked_in before.phase
   pub seen : seen_in after.phase ≡ seen_in before.phase
   pub idle : is_idle after.phase ≡ is_idle before.phase
+  pub awaited : awaits_views after.phase ≡ awaits_views before.phase
+  -- none of its answers has come, and it needs as many as an operation that begins now
+  pub none : answers_in after.phase ≡ 0
+  pub need : is_idle before.phase ≡ false → need_in after.phase ≡ quorum
 
 asked_again : (quorum : ℕ) (phase : Phase) → asked_in (again quorum phase) ≡ asked_in phase
 asked_again quorum Idle = refl
@@ -387,7 +391,19 @@ idle_again quorum (Storing p) = refl
 idle_again quorum (Querying p) = refl
 idle_again quorum (StoringBack p seen) = refl
 
-pub anew_keeps : (quorum : ℕ) (s : Ops) → AsksAnewAlone s (anew quorum s)
+awaited_again : (quorum : ℕ) (phase : Phase) → awaits_views (again quorum phase) ≡ awaits_views phase
+awaited_again quorum Idle = refl
+awaited_again quorum _ = refl
+
+none_again : (quorum : ℕ) (phase : Phase) → answers_in (again quorum phase) ≡ 0
+none_again quorum Idle = refl
+none_again quorum _ = refl
+
+need_again : (quorum : ℕ) (phase : Phase) → is_idle phase ≡ false → need_in (again quorum phase) ≡ quorum
+need_again quorum Idle busy = cc
+need_again quorum _ busy = refl
+
+pub anew_keeps : (quorum : ℕ) (s : Ops) → AsksAnewAlone quorum s (anew quorum s)
 anew_keeps quorum s = record {
   view = refl;
   number = refl;
@@ -399,4 +415,7 @@ anew_keeps quorum s = record {
   asked = asked_again quorum s.phase;
   seen = seen_again quorum s.phase;
   idle = idle_again quorum s.phase;
+  awaited = awaited_again quorum s.phase;
+  none = none_again quorum s.phase;
+  need = need_again quorum s.phase;
 }

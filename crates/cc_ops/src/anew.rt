@@ -80,7 +80,7 @@ impl Ops {
     }
 }
 
-/// A phase that begins anew is no new operation: it changes the tag, the need and the count alone.
+/// A phase that begins anew is no new operation: it asks the same under the next tag, needs `quorum` answers, and has none.
 pub fn anew_keeps_the_operation()
-    ensures { (quorum : ℕ) (s : ops.Ops) → AsksAnewAlone s (ops.anew quorum s) }
+    ensures { (quorum : ℕ) (s : ops.Ops) → AsksAnewAlone quorum s (ops.anew quorum s) }
 {}

@@ -1,6 +1,6 @@
 //! What clients are told on one event.
 
-ghost use Rattle.std.specs.Prelude.{◌≡◌, ◌≤◌, ◌<◌, ◌==◌, ◌++◌, [], ◌∷◌, length, IfOk, OnOk, IfSome, None};
+ghost use Rattle.std.specs.Prelude.{◌≡◌, ◌≤◌, ◌<◌, ◌==◌, ◌++◌, [], ◌∷◌, length, IfOk, OnOk, OnErr, IfSome, None};
 ghost use Rattle.cc_ops.specs.Waiting.{line_limit};
 
 use crate::pending::Reply;
@@ -52,11 +52,12 @@ impl Replies {
         })
     }
 
-    /// One more, behind the others. The only error is a refused growth.
+    /// One more, behind the others. The only error is a refused growth, which leaves them as they are.
     pub fn push(&mut self, reply: Reply) -> Result<(), NoMemory>
         requires some { 1 ≤ length self.old }
         requires room { length self.old < line_limit }
-        ensures { OnOk result (self.new ≡ self.old ++ reply ∷ []) }
+        ensures pushed { OnOk result (self.new ≡ self.old ++ reply ∷ []) }
+        ensures kept { OnErr result (self.new ≡ self.old) }
     {
         let replies = self.replies.as_mut().unwrap();
         replies.push(reply)?;

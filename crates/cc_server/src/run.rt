@@ -18,7 +18,9 @@ use cc_channels::{Admission, Durable, Stop, millis};
 use cc_files::FileSite;
 use cc_flush::{Back, Failed, Flusher, open_anew};
 use cc_frames::Peer;
-use cc_intake::{Ends, Finished, Hooked, Hooks, Lane, Life, Share, finish, lane, start};
+use cc_intake::{
+    Ends, Finished, Hooked, Hooks, Intake, Lane, Life, Queue, Share, Turner, finish, lane, start,
+};
 use cc_messages::Event;
 use cc_node::Core;
 use cc_protocol::Routes;
@@ -297,6 +299,7 @@ fn note_addresses<R: Log>(rt: &R, core: &Core, peers: &[Peer]) {
     }
 }
 
+// Lives the life that begins with the node that was opened. Its premises are those of `start`.
 fn run_as<L: Life + Send + Sync, S: Site + Drop, R, H: Hooks + Sync>(
     run: &Run<'_, R, H>,
     ready: Ready<S>,
@@ -317,17 +320,7 @@ where
         drop(ready);
         return Err(RunFault::NoMemory);
     };
-    let Ok(shares) = Vec::with_capacity(run.alloc, MOST_WORKERS) else {
-        drop((ready, ends));
-        return Err(RunFault::NoMemory);
-    };
-    let Ok(admission) = Admission::new(run.alloc, Durable::<OfLife<L>>::new(0)) else {
-        drop((ready, ends, shares));
-        return Err(RunFault::NoMemory);
-    };
-    let outcome = run_at::<L, Brand, S, R, H>(run, ready, blank, ends, shares, &admission);
-    drop(admission);
-    outcome
+    run_at::<L, Brand, S, R, H>(run, ready, blank, ends)
 }
 
 fn run_at<L: Life + Send + Sync, Q: Lane + Send + Sync, S: Site + Drop, R, H: Hooks + Sync>(
@@ -335,8 +328,6 @@ fn run_at<L: Life + Send + Sync, Q: Lane + Send + Sync, S: Site + Drop, R, H: Ho
     ready: Ready<S>,
     blank: Blank,
     ends: Ends<L>,
-    shares: Vec<Share<L>>,
-    admission: &Admission<OfLife<L>>,
 ) -> Result<Finished<()>, RunFault>
 where
     R: Machine,
@@ -356,9 +347,67 @@ where
         listeners,
         inlets,
     } = ready;
-    let me = core.me();
-    admission.turned(run.rt, 0, Durable::new(0), engine.twin());
-    let (intake, mut turner, queue) = start::<S, L, Q>(engine, core, blank, ends);
+    let (intake, turner, queue) = start::<S, L, Q>(engine, core, blank, ends);
+    let begun = Begun {
+        intake,
+        turner,
+        queue,
+        listeners,
+        inlets,
+    };
+    run_begun(run, begun)
+}
+
+// A life that has begun.
+#[derive(Drop)]
+struct Begun<S: Site, L: Life, Q: Lane> {
+    intake: Intake<L, Q>,
+    turner: Turner<S, L, Q>,
+    queue: Queue<L, Q>,
+    listeners: Listeners,
+    inlets: Inlets,
+}
+
+// From here on it is known of none of the life's events that they are durable, but by what a turn tells.
+fn run_begun<L: Life + Send + Sync, Q: Lane + Send + Sync, S: Site + Drop, R, H: Hooks + Sync>(
+    run: &Run<'_, R, H>,
+    begun: Begun<S, L, Q>,
+) -> Result<Finished<()>, RunFault>
+where
+    R: Machine,
+    requires none { L.flushed 0 }
+{
+    let Ok(shares) = Vec::with_capacity(run.alloc, MOST_WORKERS) else {
+        drop(begun);
+        return Err(RunFault::NoMemory);
+    };
+    let Ok(admission) = Admission::new(run.alloc, Durable::<OfLife<L>>::new(0)) else {
+        drop((begun, shares));
+        return Err(RunFault::NoMemory);
+    };
+    admission.turned(run.rt, 0, Durable::new(0), begun.turner.engine().twin());
+    let outcome = run_admitted(run, begun, shares, &admission);
+    drop(admission);
+    outcome
+}
+
+fn run_admitted<L: Life + Send + Sync, Q: Lane + Send + Sync, S: Site + Drop, R, H: Hooks + Sync>(
+    run: &Run<'_, R, H>,
+    begun: Begun<S, L, Q>,
+    shares: Vec<Share<L>>,
+    admission: &Admission<OfLife<L>>,
+) -> Result<Finished<()>, RunFault>
+where
+    R: Machine,
+{
+    let Begun {
+        intake,
+        mut turner,
+        queue,
+        listeners,
+        inlets,
+    } = begun;
+    let me = turner.engine().twin().core().me();
     let lock = Mutex::new(intake);
     let shares = Mutex::new(shares);
     let context = Context {

@@ -164,6 +164,11 @@ impl Shared {
             drop((board, tables));
             return Err(RunFault::NoMemory);
         };
+        Ok((Shared::of(alloc, tables, ways, board, now), inlets))
+    }
+
+    // Of a node that is started at that moment.
+    fn of(alloc: Global, tables: Tables, ways: Ways, board: Option<Board>, now: u64) -> Self {
         let Tables {
             connections,
             wishes,
@@ -176,7 +181,7 @@ impl Shared {
             notes,
             waker,
         } = ways;
-        let shared = Shared {
+        Shared {
             me: OnceLock::new(),
             connections,
             channels,
@@ -196,8 +201,7 @@ impl Shared {
             ticked: Flag::new(),
             done: Flag::new(),
             ended: Flag::new(),
-        };
-        Ok((shared, inlets))
+        }
     }
 
     /// The moment of the last tick, in milliseconds since 1970.

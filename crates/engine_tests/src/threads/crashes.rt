@@ -22,7 +22,8 @@ fn ask_again<L: Life, Q: Lane, R: Wait>(
     share: &mut Share<L>,
 ) -> Option<Told> {
     let event = store_a()?;
-    let answer = lock.lock(rt).accept(rt, alloc, share, queue, event);
+    let answer = lock.lock(rt).accept(rt, alloc, share, queue, &event);
+    drop(event);
     Some(shown(answer))
 }
 

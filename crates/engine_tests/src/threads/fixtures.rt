@@ -79,7 +79,10 @@ pub(crate) fn hear<L: Life, Q: Lane, R: Wait>(
     share: &mut Share<L>,
     number: u64,
 ) -> Told {
-    shown(lock.lock(rt).accept(rt, alloc, share, queue, echo(number)))
+    let event = echo(number);
+    let answer = lock.lock(rt).accept(rt, alloc, share, queue, &event);
+    drop(event);
+    shown(answer)
 }
 
 /// What an intake told of an event: of a refused one why, and after how many accepted ones. Intakes alone make a `Refused`.

@@ -28,7 +28,7 @@ pub loop-asked-preserved : goal.loop-asked-preserved
 loop-asked-preserved c =
     let seen = c.args.seen.now in
     let items = c.asks-asked-items.result.now in
-    c.in_ok-push.ensures
+    c.in_ok-push.ensures.pushed
     ∙ (λ i. c.loop-asked.invariant i ++ c.in_ok-reply.ensures i ∷ [])
     ∙ sym (told_more seen c.args.pending.now.asked items c.loop-asked.asked-index c.asked-item.result c.loop-asked-test.true c.asked-item.is)
 

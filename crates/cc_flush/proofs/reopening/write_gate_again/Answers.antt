@@ -1,0 +1,28 @@
+use Rattle.std.proofs.Common.{subst}
+use Rattle.cc_site.specs.declared.site.Side.{Side}
+use Rattle.cc_site.specs.Sides.{touch}
+use Rattle.cc_site.specs.Moments.{Within}
+use Rattle.cc_site.specs.Runs.{EachMoment}
+use Rattle.cc_flush.proofs.ArmingAgain.{sync_stays, gate_stays}
+use Rattle.cc_flush.proofs.reopening.write_gate_again.Goals as goal
+
+pub returns-in_err-sync-clause-good : goal.returns-in_err-sync-clause-good
+returns-in_err-sync-clause-good g c h armed =
+    let met = g.met.S.Site in
+    let old = c.args.site.now in
+    let mid = c.sync.new.self in
+    sync_stays g.S.Site old mid (met.only_now old h) (met.counts_now mid (c.sync.ensures.honest.0 h)) (c.sync.ensures.time h)
+
+pub returns-clause-good : goal.returns-clause-good
+returns-clause-good g c h armed =
+    let s = g.S.Site in
+    let met = g.met.S.Site in
+    let old = c.args.site.now in
+    let mid = c.sync.new.self in
+    let new = c.write_durably.new.site in
+    let h1 = c.sync.ensures.honest.0 h in
+    let run = subst (λ (newer : Side). EachMoment s mid new (Within newer (touch (s.state mid newer) 0 1) (s.state mid) (s.sent mid))) c.other.ensures
+    (c.write_durably.ensures.every_moment h1) in
+    gate_stays s old mid (met.only_now old h) (met.counts_now mid h1) (c.sync.ensures.time h)
+    new c.args.older (met.counts_now new (c.write_durably.ensures.honest.0 h1)) armed
+    (c.in_ok-sync.ensures.value h) (c.sync.ensures.other_side h) run
