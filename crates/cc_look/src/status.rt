@@ -133,6 +133,15 @@ fn number(value: &Value, name: &str) -> Option<u64> {
     number_of(value.get(name)?)
 }
 
+// The numbers of these names.
+fn numbers<const N: usize>(value: &Value, names: &[&str]) -> Option<[u64; N]> {
+    let mut found = [0; N];
+    for (place, name) in found.iter_mut().zip(names.iter()) {
+        *place = number(value, name)?;
+    }
+    Some(found)
+}
+
 /// The number that a value is, or that its digits spell.
 pub(crate) fn number_of(value: &Value) -> Option<u64> {
     match value.as_str() {
@@ -153,21 +162,25 @@ fn list<'a>(value: &'a Value, name: &str) -> Option<&'a [Value]> {
 impl<'a> Status<'a> {
     /// What the JSON of a status says. None where a member is missing, or is no such value.
     pub fn of(value: &'a Value) -> Option<Self> {
+        let [id, now, waiting, session_limit] = numbers::<4>(
+            value,
+            &["id", "now", "waiting", "session_limit"],
+        )?;
         Some(Status {
-            id: number(value, "id")?,
+            id,
             version: text(value, "version")?,
-            now: number(value, "now")?,
+            now,
             standing: text(value, "standing")?,
             is_ready: flag(value, "is_ready")?,
             reason: text(value, "reason")?,
             quorum: QuorumPart::in_status(value)?,
-            members: numbers(value, "members")?,
-            left: numbers(value, "left")?,
+            members: number_list(value, "members")?,
+            left: number_list(value, "left")?,
             view: rows_in(value)?,
             round: round_in(value)?,
-            waiting: number(value, "waiting")?,
+            waiting,
             sessions: list(value, "sessions")?,
-            session_limit: number(value, "session_limit")?,
+            session_limit,
             posts: PostPart::in_status(value)?,
             peers: peers_in(value)?,
             disk: DiskPart::in_status(value)?,
@@ -178,7 +191,7 @@ impl<'a> Status<'a> {
 }
 
 // A list of numbers.
-fn numbers<'a>(value: &'a Value, name: &str) -> Option<&'a [Value]> {
+fn number_list<'a>(value: &'a Value, name: &str) -> Option<&'a [Value]> {
     let items = list(value, name)?;
     for item in items {
         number_of(item)?;
@@ -214,12 +227,16 @@ fn round_in(status: &Value) -> Option<Option<RoundPart<'_>>> {
 impl<'a> QuorumPart<'a> {
     fn in_status(status: &'a Value) -> Option<Self> {
         let value = status.get("quorum")?;
+        let [members, need, may_be_away] = numbers::<3>(
+            value,
+            &["members", "need", "may_be_away"],
+        )?;
         Some(QuorumPart {
             beta: text(value, "beta")?,
             gamma: text(value, "gamma")?,
-            members: number(value, "members")?,
-            need: number(value, "need")?,
-            may_be_away: number(value, "may_be_away")?,
+            members,
+            need,
+            may_be_away,
         })
     }
 }
@@ -227,13 +244,14 @@ impl<'a> QuorumPart<'a> {
 impl<'a> RowPart<'a> {
     /// What the JSON of a row says.
     pub fn of(value: &'a Value) -> Option<Self> {
+        let [node, number, max] = numbers::<3>(value, &["node", "number", "max"])?;
         Some(RowPart {
-            node: number(value, "node")?,
-            number: number(value, "number")?,
+            node,
+            number,
             text: RowText::in_row(value)?,
-            max: number(value, "max")?,
+            max,
             flag: flag(value, "flag")?,
-            set: numbers(value, "set")?,
+            set: number_list(value, "set")?,
         })
     }
 }
@@ -249,41 +267,41 @@ impl<'a> RowText<'a> {
 
 impl<'a> RoundPart<'a> {
     fn of(value: &'a Value) -> Option<Self> {
+        let [session, request, others] = numbers::<3>(value, &["session", "request", "others"])?;
+        let [answers, need, since] = numbers::<3>(value, &["answers", "need", "since"])?;
         Some(RoundPart {
             phase: text(value, "phase")?,
-            session: number(value, "session")?,
-            request: number(value, "request")?,
-            others: number(value, "others")?,
-            answers: number(value, "answers")?,
-            need: number(value, "need")?,
-            since: number(value, "since")?,
+            session,
+            request,
+            others,
+            answers,
+            need,
+            since,
         })
     }
 }
 
 impl PostPart {
     fn in_status(status: &Value) -> Option<Self> {
-        let value = status.get("posts")?;
-        Some(PostPart {
-            made: number(value, "made")?,
-            kept: number(value, "kept")?,
-            limit: number(value, "limit")?,
-        })
+        let [made, kept, limit] = numbers::<3>(status.get("posts")?, &["made", "kept", "limit"])?;
+        Some(PostPart { made, kept, limit })
     }
 }
 
 impl<'a> PeerPart<'a> {
     /// What the JSON of a peer says. A peer without an address, or a moment, has none.
     pub fn of(value: &'a Value) -> Option<Self> {
+        let [id, behind] = numbers::<2>(value, &["id", "behind"])?;
+        let [acknowledged, heard] = numbers::<2>(value, &["acknowledged", "heard"])?;
         Some(PeerPart {
-            id: number(value, "id")?,
+            id,
             address: text(value, "address"),
             connected_since: number(value, "connected_since"),
             absent_since: number(value, "absent_since"),
             is_silent: flag(value, "is_silent").unwrap_or(false),
-            behind: number(value, "behind")?,
-            acknowledged: number(value, "acknowledged")?,
-            heard: number(value, "heard")?,
+            behind,
+            acknowledged,
+            heard,
         })
     }
 }
@@ -291,12 +309,14 @@ impl<'a> PeerPart<'a> {
 impl<'a> DiskPart<'a> {
     fn in_status(status: &'a Value) -> Option<Self> {
         let value = status.get("disk")?;
+        let [generation, bytes] = numbers::<2>(value, &["generation", "bytes"])?;
+        let [records, events] = numbers::<2>(value, &["records", "events"])?;
         Some(DiskPart {
             side: text(value, "side")?,
-            generation: number(value, "generation")?,
-            bytes: number(value, "bytes")?,
-            records: number(value, "records")?,
-            events: number(value, "events")?,
+            generation,
+            bytes,
+            records,
+            events,
         })
     }
 }
@@ -304,10 +324,14 @@ impl<'a> DiskPart<'a> {
 impl<'a> CountPart<'a> {
     fn in_status(status: &'a Value) -> Option<Self> {
         let value = status.get("counts")?;
+        let [commits, events, connections] = numbers::<3>(
+            value,
+            &["commits", "events", "connections"],
+        )?;
         Some(CountPart {
-            commits: number(value, "commits")?,
-            events: number(value, "events")?,
-            connections: number(value, "connections")?,
+            commits,
+            events,
+            connections,
             asks: value.get("asks")?.as_object()?,
             refusals: value.get("refusals")?.as_object()?,
         })
@@ -317,12 +341,14 @@ impl<'a> CountPart<'a> {
 impl SyncPart {
     fn in_status(status: &Value) -> Option<Self> {
         let value = status.get("syncs")?;
+        let [count, mean_us] = numbers::<2>(value, &["count", "mean_us"])?;
+        let [p50_us, p99_us, worst_us] = numbers::<3>(value, &["p50_us", "p99_us", "worst_us"])?;
         Some(SyncPart {
-            count: number(value, "count")?,
-            mean_us: number(value, "mean_us")?,
-            p50_us: number(value, "p50_us")?,
-            p99_us: number(value, "p99_us")?,
-            worst_us: number(value, "worst_us")?,
+            count,
+            mean_us,
+            p50_us,
+            p99_us,
+            worst_us,
         })
     }
 }

@@ -174,37 +174,6 @@ fn a_snapshot_comes_under_any_number_up_to_the_limit(rt: HostRuntime) {
     drop(node);
 }
 
-// The bytes of a snapshot by which the nodes from 2 up to the last one have entered.
-fn snapshot_up_to<R: Abort + AllocGlobal>(rt: &R, last: u16) -> Vec<u8> {
-    let mut out = Vec::new(rt.alloc());
-    let [high, low] = last.saturating_sub(1).to_be_bytes();
-    out.extend_from_slice(&[0x20, high, low]).expect(rt, "room");
-    for number in 2..=last {
-        let [high, low] = number.to_be_bytes();
-        out.extend_from_slice(&[0, 0, high, low]).expect(rt, "room");
-    }
-    out.extend_from_slice(&[0; 6]).expect(rt, "room");
-    out
-}
-
-// Why node 1 refuses that snapshot of node 2, if it does.
-fn refusal_up_to<R: Abort + AllocGlobal>(rt: &R, node: &Node, last: u16) -> Option<Refusal> {
-    let bytes = snapshot_up_to(rt, last);
-    refusal_of(rt, node, 2, 1, &bytes)
-}
-
-fn check_named<R: Abort + AllocGlobal>(rt: &R, node: &Node) {
-    let refusals = [refusal_up_to(rt, node, 256), refusal_up_to(rt, node, 257)];
-    assert!(rt; refusals == [None, Some(Refusal::TooManyNodes)]);
-}
-
-#[test]
-fn a_snapshot_names_up_to_256_nodes(rt: HostRuntime) {
-    let node = fresh(&rt, &opening(1, &[1, 2], &[]));
-    check_named(&rt, &node);
-    drop(node);
-}
-
 #[test]
 fn an_entrant_lets_nothing_lapse(rt: HostRuntime) {
     let mut node = fresh(&rt, &opening(4, &[], &[1, 2]));

@@ -76,18 +76,6 @@ fn a_member_is_one_of_the_first_and_no_contact_of_its_own(rt: HostRuntime) {
     check_bad(&rt, &bad);
 }
 
-// Whether node 1 can't begin with the contacts from node 2 to the last one.
-fn is_bad_up_to<R: Abort + AllocGlobal>(rt: &R, last: u32) -> bool {
-    let contacts: Vec<u32> = (2..=last).collect(rt.alloc()).expect(rt, "contacts");
-    is_bad(rt.alloc(), &opening(1, &[], &contacts))
-}
-
-#[test]
-fn an_opening_names_up_to_256_nodes(rt: HostRuntime) {
-    assert!(rt; !is_bad_up_to(&rt, 256));
-    assert!(rt; is_bad_up_to(&rt, 257));
-}
-
 /// The node that begins so.
 pub fn fresh<R: Abort + AllocGlobal>(rt: &R, opening: &Opening<'_>) -> Node {
     Node::fresh(rt.alloc(), opening).expect(rt, "a node")

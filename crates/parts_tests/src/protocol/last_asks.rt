@@ -41,27 +41,3 @@ fn another_command_under_the_last_number_differs(rt: HostRuntime) {
     remember(&mut asks);
     check(&rt, &asks);
 }
-
-// Each kind of command is remembered with its number.
-const COMMANDS: [Command; 7] = [
-    Command::Collect,
-    Command::WriteMax(5),
-    Command::ReadMax,
-    Command::SetFlag,
-    Command::ReadFlag,
-    Command::AddMember(5),
-    Command::ReadSet,
-];
-
-#[test]
-fn commands_differ_by_their_kind_and_their_value(rt: HostRuntime) {
-    let mut asks = LastAsks::new(rt.alloc()).expect(&rt, "asks");
-    for (place, command) in COMMANDS.iter().enumerate() {
-        asks.remember(&ask(7, 1, *command));
-        for (other, another) in COMMANDS.iter().enumerate() {
-            assert!(rt; asks.differs(&ask(7, 1, *another)) == (place != other));
-        }
-        assert!(rt; asks.differs(&ask(7, 1, Command::WriteMax(6))));
-        assert!(rt; asks.differs(&ask(7, 1, Command::AddMember(6))));
-    }
-}
