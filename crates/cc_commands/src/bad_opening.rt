@@ -1,11 +1,10 @@
 //! Why no node begins so, in the words of the command line.
 
 use cc_node::OpeningRule;
-use std::error::Error;
 use std::fmt;
 
 /// The rule that the words of `format` break.
-#[derive(Clone, Copy, Debug, PartialEq, Eq)]
+#[derive(Clone, Copy)]
 pub struct BadOpening(pub OpeningRule);
 
 impl fmt::Display for BadOpening {
@@ -31,5 +30,3 @@ impl fmt::Display for BadOpening {
         })
     }
 }
-
-impl Error for BadOpening {}

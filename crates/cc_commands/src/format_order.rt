@@ -14,7 +14,7 @@ const FOUR_FIFTHS: Fraction = Fraction { num: 4, den: 5 };
 const ONE_BY_ONE: u32 = 1;
 
 /// The node that a folder is to keep.
-#[derive(Drop, PartialEq, Eq)]
+#[derive(Drop)]
 pub struct FormatOrder {
     pub id: u32,
     /// The members at the start. None for a node that enters later.

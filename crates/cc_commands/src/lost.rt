@@ -1,12 +1,11 @@
 //! Files of a node that are missing while others are there.
 
 use std::alloc::{AllocError, Global};
-use std::error::Error;
 use std::fs::Files;
 use std::{fmt, fs};
 
 /// Which files of a folder are missing, though a node was kept there.
-#[derive(Clone, Copy, Debug, PartialEq, Eq)]
+#[derive(Clone, Copy, PartialEq, Eq)]
 pub enum Lost {
     /// The file `side-a`, beside a `side-b`.
     SideA,
@@ -18,20 +17,18 @@ pub enum Lost {
 
 impl fmt::Display for Lost {
     fn fmt<W: fmt::Write>(&self, f: &mut fmt::Formatter<W>) -> fmt::Result {
-        match self {
-            Lost::SideA => write!(f, "side-a is missing while side-b is there")?,
-            Lost::SideB => write!(f, "side-b is missing while side-a is there")?,
-            Lost::Both => write!(f, "side-a and side-b are missing while lock is there")?,
-        }
+        let missing = match self {
+            Lost::SideA => "side-a is missing while side-b is there",
+            Lost::SideB => "side-b is missing while side-a is there",
+            Lost::Both => "side-a and side-b are missing while lock is there",
+        };
         write!(
             f,
-            ": a lost file isn't an unformatted folder. Bring it back, or retire this id at every other node, and give \
-             the folder another one"
+            "{missing}: a lost file isn't an unformatted folder. Bring it back, or retire this id at every other node, \
+             and give the folder another one"
         )
     }
 }
-
-impl Error for Lost {}
 
 impl Lost {
     /// What is missing in a folder, before it is opened, which makes the files that are missing. None where nothing is, and

@@ -1,7 +1,6 @@
 //! Why the folder of a node can't be opened, as far as its files tell afterwards.
 
 use std::alloc::{AllocError, Global};
-use std::error::Error;
 use std::fs::{File, Files};
 use std::io::ErrorKind;
 use std::{fmt, fs, io};
@@ -10,7 +9,7 @@ use std::{fmt, fs, io};
 const FILES: [&str; 3] = ["lock", "side-a", "side-b"];
 
 /// What is wrong with a folder, or with a file in it.
-#[derive(Clone, Copy, Debug, PartialEq, Eq)]
+#[derive(Clone, Copy, PartialEq, Eq)]
 pub enum Wrong {
     /// There is no such folder.
     NoFolder,
@@ -28,22 +27,21 @@ pub enum Wrong {
 
 impl fmt::Display for Wrong {
     fn fmt<W: fmt::Write>(&self, f: &mut fmt::Formatter<W>) -> fmt::Result {
-        match self {
-            Wrong::NoFolder => write!(f, "no such folder; make it, and format it"),
-            Wrong::NotAFolder => write!(f, "not a folder"),
-            Wrong::Held => write!(
-                f,
+        f.write_str(match self {
+            Wrong::NoFolder => "no such folder; make it, and format it",
+            Wrong::NotAFolder => "not a folder",
+            Wrong::Held => {
                 "held by another program: a node runs on this folder, or another ccnode has it open"
-            ),
-            Wrong::NotAFile => write!(f, "a folder, where a file has to be"),
-            Wrong::Denied => write!(f, "permission denied; run as the user that owns the folder"),
-            Wrong::Fails(kind) => write!(f, "{kind}"),
-        }
+            }
+            Wrong::NotAFile => "a folder, where a file has to be",
+            Wrong::Denied => "permission denied; run as the user that owns the folder",
+            Wrong::Fails(kind) => return write!(f, "{kind}"),
+        })
     }
 }
 
 /// A path, and what is wrong there: `node-1/lock: held by another program ..`.
-#[derive(Debug, Drop, PartialEq, Eq)]
+#[derive(Drop)]
 pub struct Trouble {
     pub path: String,
     pub wrong: Wrong,
@@ -56,8 +54,6 @@ impl fmt::Display for Trouble {
         write!(f, "{path}: {wrong}")
     }
 }
-
-impl Error for Trouble {}
 
 impl Trouble {
     /// What is wrong with a folder that couldn't be opened, by a second look. None where nothing is wrong any more. Like

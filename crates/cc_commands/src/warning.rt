@@ -1,14 +1,30 @@
 //! What an operator may not want of a node that can begin so all the same.
 
-use thiserror::Error;
+use std::fmt;
 
 /// What an operator may not want.
-#[derive(Clone, Copy, Debug, PartialEq, Eq, Error)]
+#[derive(Clone, Copy, PartialEq, Eq)]
 pub enum Warning {
-    #[error("--beta is one half or less: a store may be acknowledged by nodes that no collect asks")]
+    /// A store may be acknowledged by nodes that no collect asks.
     Half,
-    #[error("with this --beta an operation waits for all of so few members: while one is down, none ends")]
+    /// An operation waits for all members.
     All,
-    #[error("neither --initial nor --contacts: the node reaches nobody, and never joins")]
+    /// The node reaches nobody.
     Alone,
+}
+
+impl fmt::Display for Warning {
+    fn fmt<W: fmt::Write>(&self, f: &mut fmt::Formatter<W>) -> fmt::Result {
+        f.write_str(match self {
+            Warning::Half => {
+                "--beta is one half or less: a store may be acknowledged by nodes that no collect asks"
+            }
+            Warning::All => {
+                "with this --beta an operation waits for all of so few members: while one is down, none ends"
+            }
+            Warning::Alone => {
+                "neither --initial nor --contacts: the node reaches nobody, and never joins"
+            }
+        })
+    }
 }

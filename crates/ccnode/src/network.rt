@@ -1,5 +1,6 @@
 //! What is asked of a node over TCP.
 
+use crate::running::print_unreadable;
 use crate::{BAD_COMMAND_LINE, print_word_fault};
 use cc_client::{Told, ask_node, leave_node, retire_node};
 use cc_look::{look_at, reason_at};
@@ -59,31 +60,18 @@ pub fn leave(rt: &HostRuntime, address: &str) -> anyhow::Result<ExitCode> {
 
 /// Tells nodes that another is dead, one after the other: 0 where all took it, else 1.
 pub fn retire(rt: &HostRuntime, words: &RetireWords<'_>) -> anyhow::Result<ExitCode> {
-    match words.peers_file {
+    let lines = match words.peers_file {
         Some(file) => match fs::read_to_string(rt, file) {
-            Ok(lines) => retire_with(rt, words, Some((file, lines.as_str()))),
-            Err(error) => {
-                eprintln!(rt; "ccnode: {file}: {error}")?;
-                Ok(ExitCode::from(BAD_COMMAND_LINE))
-            }
+            Ok(lines) => Some(lines),
+            Err(error) => return print_unreadable(rt, file, &error),
         },
-        None => retire_with(rt, words, None),
-    }
-}
-
-// The same with the path and the text of a file of peers, if there is one.
-fn retire_with(
-    rt: &HostRuntime,
-    words: &RetireWords<'_>,
-    file: Option<(&str, &str)>,
-) -> anyhow::Result<ExitCode> {
-    let lines = match file {
-        Some((_, lines)) => Some(lines),
         None => None,
     };
-    match RetireOrder::parse(rt.alloc(), words, lines) {
+    let order = RetireOrder::parse(rt.alloc(), words, lines.as_deref());
+    drop(lines);
+    match order {
         Ok(order) => retire_at_all(rt, &order),
-        Err(fault) => print_retire_fault(rt, fault, file),
+        Err(fault) => print_retire_fault(rt, fault, words.peers_file),
     }
 }
 
@@ -91,13 +79,10 @@ fn retire_with(
 fn print_retire_fault(
     rt: &HostRuntime,
     fault: WordFault,
-    file: Option<(&str, &str)>,
+    peers_file: Option<&str>,
 ) -> anyhow::Result<ExitCode> {
-    match (fault, file) {
-        (
-            WordFault::Line(_) | WordFault::LineAddressTwice | WordFault::NobodyElse,
-            Some((path, _)),
-        ) => {
+    match (fault, peers_file) {
+        (WordFault::Line(_) | WordFault::LineAddressTwice | WordFault::NobodyElse, Some(path)) => {
             eprintln!(rt; "ccnode: {path} {fault}")?;
             Ok(ExitCode::from(BAD_COMMAND_LINE))
         }

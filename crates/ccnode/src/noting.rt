@@ -16,8 +16,8 @@ use std::thread::Threads;
 use std::time::{Clock, Duration};
 use std::{fmt, io};
 
-/// A runtime, and a log on its standard error, for which no caller waits. It passes on each call of the runtime that a node makes: `Logged` alone makes no
-/// connection within a time.
+/// A runtime, and a log on its standard error, for which no caller waits. It passes on each call of the runtime that a node
+/// makes: `Logged` alone makes no connection within a time.
 #[derive(Drop)]
 pub struct NotingRuntime<'a, R> {
     rt: &'a R,
@@ -25,7 +25,7 @@ pub struct NotingRuntime<'a, R> {
 }
 
 /// Standard error, where each record has a line, behind the time where that is wanted.
-#[derive(Clone, Copy)]
+#[derive(Drop)]
 struct TimedConsole<'a, R> {
     rt: &'a R,
     lines: &'a Lines,
@@ -64,7 +64,7 @@ impl<R: Wait + Clock> Log for TimedConsole<'_, R> {
 }
 
 // A line behind its time.
-#[derive(Clone, Copy)]
+#[derive(Drop)]
 struct Timed<'a, D> {
     time: Timestamp,
     line: &'a D,

@@ -20,7 +20,7 @@ use std::process::ExitCode;
 use std::sync::Wait;
 use std::thread::Threads;
 use std::time::{Clock, Duration};
-use std::{fs, thread};
+use std::{fs, io, thread};
 
 /// Runs the node of a folder, on a machine with a log of its own: the status of that.
 pub fn run<R, N>(
@@ -40,55 +40,39 @@ where
         + Log
         + Sync,
 {
-    match words.peers_file {
+    let lines = match words.peers_file {
         Some(file) => match fs::read_to_string(rt, file) {
-            Ok(lines) => run_with(rt, machine, folder, words, Some((file, lines.as_str()))),
-            Err(error) => {
-                eprintln!(rt; "ccnode: {file}: {error}")?;
-                Ok(ExitCode::from(BAD_COMMAND_LINE))
-            }
+            Ok(lines) => Some(lines),
+            Err(error) => return print_unreadable(rt, file, &error),
         },
-        None => run_with(rt, machine, folder, words, None),
+        None => None,
+    };
+    let order = RunOrder::parse(rt.alloc(), words, lines.as_deref());
+    drop(lines);
+    match order {
+        Ok(order) => run_as(rt, machine, folder, order, words.peers_file),
+        Err(fault) => print_order_fault(rt, fault, words.peers_file),
     }
 }
 
-// The same with the path and the text of a file of peers, if there is one.
-fn run_with<R, N>(
+/// Prints why a file of peers can't be read.
+pub fn print_unreadable<R: Eprint>(
     rt: &R,
-    machine: &N,
-    folder: &str,
-    words: &RunWords<'_>,
-    file: Option<(&str, &str)>,
-) -> anyhow::Result<ExitCode>
-where
-    R: Files<File = File> + Machinery,
-    N: Files<File = File>
-        + Net<Listener = TcpListener, Stream = TcpStream>
-        + Threads
-        + Wait
-        + Clock
-        + ReadText
-        + Log
-        + Sync,
-{
-    let lines = match file {
-        Some((_, lines)) => Some(lines),
-        None => None,
-    };
-    match RunOrder::parse(rt.alloc(), words, lines) {
-        Ok(order) => run_as(rt, machine, folder, order, words.peers_file),
-        Err(fault) => print_order_fault(rt, fault, file),
-    }
+    file: &str,
+    error: &io::Error,
+) -> anyhow::Result<ExitCode> {
+    eprintln!(rt; "ccnode: {file}: {error}")?;
+    Ok(ExitCode::from(BAD_COMMAND_LINE))
 }
 
 // A fault of a file of peers is told with its path.
 fn print_order_fault<R: Eprint>(
     rt: &R,
     fault: WordFault,
-    file: Option<(&str, &str)>,
+    peers_file: Option<&str>,
 ) -> anyhow::Result<ExitCode> {
-    match (fault, file) {
-        (WordFault::Line(_) | WordFault::LineTwice, Some((path, _))) => {
+    match (fault, peers_file) {
+        (WordFault::Line(_) | WordFault::LineTwice, Some(path)) => {
             eprintln!(rt; "ccnode: {path} {fault}")?;
             Ok(ExitCode::from(BAD_COMMAND_LINE))
         }
