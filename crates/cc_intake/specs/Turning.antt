@@ -1,6 +1,7 @@
 -- A turner.
 --     Turning                 what it has handed to its engine, what it keeps, how often it found the queue empty, and its engine
 --     listed, popped          an entry that is kept, as a list;  all that was popped
+--     TellsEach               that what is told holds of every count
 --     IsTurner                what every turner keeps
 use Rattle.std.specs.Prelude.{◌≡◌, ◌≤◌, ℕ, false, List, [], ◌∷◌, ◌++◌, length, take, Option, None, Some, refl}
 use Rattle.std.specs.Coded.{Coded, code_by, coded×, coded_ℕ, coded_option}
@@ -41,3 +42,16 @@ pub record IsTurner {D : Type 0} (opening : Node) (entries : List Entry) (flushe
   pub limit : flushed ≤ life_limit
   pub owes : engine.owes ≡ false
   pub twin : engine.failed ≡ None → engine.twin ≡ after opening (events_in (take flushed entries))
+
+-- What is told of a number of events holds of every number. Only these two lemmas make it and use it: so whoever is given a
+-- turner, which keeps it, has no such telling but by a turn.
+pub TellsEach : (ℕ → Type 0) → Type 0
+TellsEach told = (count : ℕ) → told count
+
+pub tells_each : (told : ℕ → Type 0) → ((count : ℕ) → told count) → TellsEach told
+unfolding TellsEach
+tells_each told each = each
+
+pub tells : (told : ℕ → Type 0) → TellsEach told → (count : ℕ) → told count
+unfolding TellsEach
+tells told each = each

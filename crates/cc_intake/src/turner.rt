@@ -47,7 +47,7 @@ pub struct Turner<S: Site, L: Life, Q: Lane> {
 
 impl<S: Site, L: Life, Q: Lane> Model for Turner<S, L, Q> {
     ghost use Rattle.std.specs.Prelude.{◌≡◌, ℕ, [], take};
-    ghost use Rattle.cc_intake.specs.Turning.{Turning, turning_code, IsTurner};
+    ghost use Rattle.cc_intake.specs.Turning.{Turning, turning_code, IsTurner, TellsEach};
 
     ghost Value = { Turning S };
 
@@ -55,10 +55,11 @@ impl<S: Site, L: Life, Q: Lane> Model for Turner<S, L, Q> {
 
     ghost view = { λ t. record { handed = take t.flushed t.consumer.entries; kept = t.kept; finds = t.consumer.finds; engine = t.engine } };
 
-    ghost invariant = { λ t. IsTurner L.opening t.consumer.entries t.flushed t.kept t.engine × (t.batch ≡ []) × ((count : ℕ) → L.flushed count) };
+    ghost invariant = { λ t. IsTurner L.opening t.consumer.entries t.flushed t.kept t.engine × (t.batch ≡ []) × TellsEach L.flushed };
 }
 
 impl<S: Site, L: Life, Q: Lane> Turner<S, L, Q> {
+    #[tactic(auto, using(crate::specs::Turning::tells_each))]
     pub(crate) fn new(engine: Flusher<S>, consumer: Consumer<L, Q>) -> Self
         requires owes { engine.owes ≡ false }
         requires twin { engine.failed ≡ None → engine.twin ≡ L.opening }

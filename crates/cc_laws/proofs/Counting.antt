@@ -19,7 +19,8 @@ use Rattle.cc_ops.specs.declared.pending.Asked.{Asked}
 use Rattle.cc_ops.specs.declared.pending.Pending.{Pending}
 use Rattle.cc_ops.specs.Ops.{Ops, Phase, Idle, Storing, Querying, StoringBack, is_idle, is_last, is_own, round_of, counted, merged, next_round, begin_round}
 use Rattle.cc_ops.specs.Ops.{with_begun, after_reply, after_last, after_ack, asked_in}
-use Rattle.cc_ops.specs.OwnLaws.{anew_keeps}
+use Rattle.cc_ops.specs.OwnLaws.{asked_again, seen_again}
+use Rattle.cc_laws.proofs.AnewLaws.{awaited_again, none_again}
 use Rattle.cc_ops.specs.Rounds.{first_round, line_behind}
 use Rattle.cc_ops.specs.Waiting.{writes_by}
 use Rattle.cc_churn.specs.Churn as churn
@@ -163,15 +164,14 @@ busy_pends tag _ busy = refl
 snapshot_outcome : (e : Event) (b may : Bool) (quorum : ℕ) (v : ViewMap) (s : Ops) → b ≡ (not (is_idle s.phase) && may)
     → Outcome e s (anew_if b quorum (merged v s)) None false b
 snapshot_outcome e true may quorum v s is =
-    let k = anew_keeps quorum (merged v s) in
     starts_over refl refl refl (record {
       pended = busy_pends s.tag s.phase (busy (is_idle s.phase) is);
       tag = refl;
       number = refl;
-      asked = λ i. k.asked i ++ k.others i;
-      seen = k.seen;
-      awaited = k.awaited;
-      none = k.none;
+      asked = λ i. asked_again quorum s.phase i ++ s.others;
+      seen = seen_again quorum s.phase;
+      awaited = awaited_again quorum s.phase;
+      none = none_again quorum s.phase;
     })
   where
     busy : (idle : Bool) → true ≡ (not idle && may) → idle ≡ false

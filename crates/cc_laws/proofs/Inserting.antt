@@ -1,7 +1,7 @@
 -- Finite maps that were made by insertions: what they have, and the same map made in another way.
 --     get_empty, entries_insert, entries_empty, length_is     what is in a map
 --     retain_insert, retain_empty, remove_empty     what is left of it
---     over_same, over_first                a key that is there is given another value
+--     over_same, over_two, over_one        a key that is there is given another value
 --     tables                               all of these, to rewrite by
 use Rattle.std.proofs.Common.{◌≡◌, ℕ, Bool, true, false, cond, nat_eq, List, [], ◌∷◌, length, refl, sym, ap, ◌∙◌, arith}
 use Rattle.std.specs.Prelude.{Option, Some, None}
@@ -78,20 +78,28 @@ over_same m k v w = same _ _ (λ q.
     get-insert_key (table.insert m k v) k w q ∙ ap (cond (nat_eq q k) (Some w)) (get-insert_key m k v q) ∙ twice (nat_eq q k) v w (table.get m q)
     ∙ sym (get-insert_key m k w q))
 
-three : {X : Type 0} (q : ℕ) (a b : Bool) → nat_eq q 2 ≡ a → nat_eq q 1 ≡ b → (v u w : X) (o : Option X)
+three : {X : Type 0} (j k q : ℕ) → (j ≡ k → ⊥) → (a b : Bool) → nat_eq q j ≡ a → nat_eq q k ≡ b → (v u w : X) (o : Option X)
     → cond a (Some w) (cond b (Some u) (cond a (Some v) o)) ≡ cond b (Some u) (cond a (Some w) o)
-three q true true is at v u w o = let two = eqb-true q 2 is in let one = eqb-true q 1 at in absurd (omega (arith, two, one))
-three q true false is at v u w o = refl
-three q false b is at v u w o = refl
+three j k q apart true true is at v u w o = absurd (apart (sym (eqb-true q j is) ∙ eqb-true q k at))
+three j k q apart true false is at v u w o = refl
+three j k q apart false b is at v u w o = refl
 
 -- of two keys the one that was inserted first
-pub over_first : {X : Type 0} (m : FinMap nat_cmp X) (v u w : X)
+over : {X : Type 0} (j k : ℕ) → (j ≡ k → ⊥) → (m : FinMap nat_cmp X) (v u w : X)
+    → table.insert (table.insert (table.insert m j v) k u) j w ≡ table.insert (table.insert m j w) k u
+over j k apart m v u w = same _ _ (λ q.
+    get-insert_key (table.insert (table.insert m j v) k u) j w q
+    ∙ ap (cond (nat_eq q j) (Some w)) (get-insert_key (table.insert m j v) k u q ∙ ap (cond (nat_eq q k) (Some u)) (get-insert_key m j v q))
+    ∙ three j k q apart (nat_eq q j) (nat_eq q k) refl refl v u w (table.get m q)
+    ∙ sym (get-insert_key (table.insert m j w) k u q ∙ ap (cond (nat_eq q k) (Some u)) (get-insert_key m j w q)))
+
+pub over_two : {X : Type 0} (m : FinMap nat_cmp X) (v u w : X)
     → table.insert (table.insert (table.insert m 2 v) 1 u) 2 w ≡ table.insert (table.insert m 2 w) 1 u
-over_first m v u w = same _ _ (λ q.
-    get-insert_key (table.insert (table.insert m 2 v) 1 u) 2 w q
-    ∙ ap (cond (nat_eq q 2) (Some w)) (get-insert_key (table.insert m 2 v) 1 u q ∙ ap (cond (nat_eq q 1) (Some u)) (get-insert_key m 2 v q))
-    ∙ three q (nat_eq q 2) (nat_eq q 1) refl refl v u w (table.get m q)
-    ∙ sym (get-insert_key (table.insert m 2 w) 1 u q ∙ ap (cond (nat_eq q 1) (Some u)) (get-insert_key m 2 w q)))
+over_two m v u w = over 2 1 (λ e. omega (arith, e)) m v u w
+
+pub over_one : {X : Type 0} (m : FinMap nat_cmp X) (v u w : X)
+    → table.insert (table.insert (table.insert m 1 v) 2 u) 1 w ≡ table.insert (table.insert m 1 w) 2 u
+over_one m v u w = over 1 2 (λ e. omega (arith, e)) m v u w
 
 empty_either : {X : Type 0} (b : Bool) (o : Option X) → o ≡ None → cond b None o ≡ None
 empty_either true o is = refl
@@ -100,4 +108,4 @@ empty_either false o is = is
 pub remove_empty : {X : Type 0} (k : ℕ) → table.remove (table.empty {X = X} {R = nat_cmp}) k ≡ table.empty
 remove_empty k = same _ _ (λ q. table.get-remove nat_cmp_total table.empty k q ∙ empty_either _ _ (get_empty q) ∙ sym (get_empty q))
 
-pub ruleset tables = (get-insert_key, get_empty, entries_insert, entries_empty, length_is, retain_insert, retain_empty, remove_empty, over_same, over_first)
+pub ruleset tables = (get-insert_key, get_empty, entries_insert, entries_empty, length_is, retain_insert, retain_empty, remove_empty, over_same, over_two, over_one)

@@ -1,4 +1,5 @@
 mod Lists
+mod AnewLaws
 mod Becoming
 mod Steps
 mod ShownParts
@@ -39,4 +40,7 @@ mod ReadingBack
 mod Inserting
 mod TwoNodes
 mod Turns
+mod Stages
 mod WorkedRun
+mod EntrantNodes
+mod EntrantRun

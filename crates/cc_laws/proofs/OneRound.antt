@@ -18,7 +18,8 @@ use Rattle.cc_ops.specs.declared.pending.Asked.{Asked}
 use Rattle.cc_ops.specs.declared.pending.Pending.{Pending}
 use Rattle.cc_ops.specs.Ops.{Ops, Phase, Querying, Storing, StoringBack, is_idle, is_own, round_of, counted, begin_round, after_reply, after_ack}
 use Rattle.cc_ops.specs.Ops.{after_last, after_ask, after_message, anew, asked_in, pending}
-use Rattle.cc_ops.specs.OwnLaws.{round_line, round_pending, anew_keeps}
+use Rattle.cc_ops.specs.OwnLaws.{round_line, round_pending, asked_again}
+use Rattle.cc_laws.proofs.AnewLaws.{awaited_again}
 use Rattle.cc_ops.specs.Rounds.{is_of, kind_of, picked, spared, first_round, line_behind}
 use Rattle.cc_ops.specs.Waiting.{has_session}
 use Rattle.cc_sessions.specs.Sessions.{last_request}
@@ -142,7 +143,7 @@ module _ (views : Bool) (s r : ℕ) where
 
   anew_over : (b : Bool) (q : ℕ) (o : Ops) → Over views s r o → Over views s r (anew_if b q o)
   anew_over true q o h =
-      let k = anew_keeps q o in over_same views s r o (anew q o) refl (λ i. k.asked i ++ k.others i) k.awaited h
+      over_same views s r o (anew q o) refl (λ i. asked_again q o.phase i ++ o.others) (awaited_again q o.phase) h
   anew_over false q o h = h
 
   ask_over : (me quorum : ℕ) (a : Asked) (o : Ops) → IsApart s r a → Over views s r o → Over views s r (after_ask me quorum a o)

@@ -19,7 +19,7 @@ use Rattle.cc_ops.specs.declared.pending.Reply.{Reply}
 use Rattle.cc_ops.specs.Commands.{is_writing, answer_of}
 use Rattle.cc_ops.specs.Ops as ops
 use Rattle.cc_ops.specs.Ops.{Ops, Phase, Storing, Querying, StoringBack, seen_in}
-use Rattle.cc_ops.specs.OwnLaws.{anew_keeps}
+use Rattle.cc_ops.specs.OwnLaws.{seen_again}
 use Rattle.cc_ops.specs.Rounds.{first_round, line_behind}
 use Rattle.cc_ops.specs.Waiting.{first_in}
 use Rattle.cc_node.specs.Core.{Core, quorum, asked_of, churned, churn_told, tells, asks_anew, anew_if, join_told, question_if, post_of_snapshot, post_to}
@@ -74,7 +74,7 @@ module _ (Q : ViewMap → Type 0) where
 
   -- a phase that begins anew stores back what it did
   anew_phase : (b : Bool) (quorum : ℕ) (s : Ops) → OfPhase s.phase → OfPhase (anew_if b quorum s).phase
-  anew_phase true quorum s h = subst (λ (o : Option ViewMap). IfSome o Q) (sym (anew_keeps quorum s).seen) h
+  anew_phase true quorum s h = subst (λ (o : Option ViewMap). IfSome o Q) (sym (seen_again quorum s.phase)) h
   anew_phase false quorum s h = h
 
   ask_phase : (me quorum : ℕ) (b : Bool) (a : Asked) (s : Ops) (line : List Asked) → OfPhase s.phase

@@ -54,14 +54,8 @@ put_out k m = line (node_at m m.released) (drop m.released (take k m.events))
 
 -- an event that isn't the delivery of a message
 abbrev pub IsOwn : Event → Type 0
-IsOwn event.Enter = ⊤
-IsOwn event.Leave = ⊤
 IsOwn (event.Deliver from n m) = ⊥
-IsOwn (event.Acked peer n) = ⊤
-IsOwn (event.Ask s r command) = ⊤
-IsOwn (event.Retire q) = ⊤
-IsOwn (event.Lapse q) = ⊤
-IsOwn event.Snapshot = ⊤
+IsOwn _ = ⊤
 
 pub data Move : Type 0 where
   -- an event of the node's own comes

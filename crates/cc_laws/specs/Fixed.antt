@@ -23,17 +23,9 @@ IsFixedCluster all c = (q : ℕ) (m : Member) → table.get c.members q ≡ Some
 abbrev pub StaysBy : Event → Type 0
 StaysBy event.Enter = ⊥
 StaysBy event.Leave = ⊥
-StaysBy (event.Deliver from n m) = ⊤
-StaysBy (event.Acked peer n) = ⊤
-StaysBy (event.Ask s r command) = ⊤
 StaysBy (event.Retire q) = ⊥
-StaysBy (event.Lapse q) = ⊤
-StaysBy event.Snapshot = ⊤
+StaysBy _ = ⊤
 
 abbrev pub Stays : Move → Type 0
 Stays (Accept e) = StaysBy e
-Stays (Receive from n m) = ⊤
-Stays (Sync k) = ⊤
-Stays (Release k) = ⊤
-Stays (Resend o) = ⊤
-Stays (Crash k) = ⊤
+Stays _ = ⊤

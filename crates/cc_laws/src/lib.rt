@@ -16,7 +16,7 @@ pub use lives::{
 };
 pub use living::{Stopped, live_once, live_once_in_memory};
 pub use regular::{
-    collects_are_regular, members_collect_regularly, objects_are_regular, quorums_meet,
-    shared_nodes_tell, shared_nodes_tell_readings, two_nodes_collect,
+    an_entrant_shares_a_node, collects_are_regular, members_collect_regularly, objects_are_regular,
+    quorums_meet, shared_nodes_tell, shared_nodes_tell_readings, two_nodes_collect,
 };
 pub use rounds::rounds_are_shown;

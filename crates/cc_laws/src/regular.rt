@@ -1,14 +1,16 @@
 //! The laws of collects in a cluster.
 
-ghost use Rattle.std.specs.Prelude.{◌≡◌, ◌≤◌, ℕ, Bool, true, List, [], ◌∷◌};
-ghost use Rattle.std.specs.List.{AllByRecursion};
+ghost use Rattle.std.specs.Prelude.{◌≡◌, ◌≤◌, ℕ, Bool, true, List, [], ◌∷◌, Some};
+ghost use Rattle.std.specs.List.{AllByRecursion, Contains};
+ghost use Rattle.std.specs.FinMap as table;
 ghost use Rattle.cc_views.specs.NatSets as set;
 ghost use Rattle.cc_views.specs.NatSets.{NatSet};
 ghost use Rattle.cc_views.specs.Rows.{ViewMap};
 ghost use Rattle.cc_messages.specs.declared.answer.Answer.TheVariants as answer;
 ghost use Rattle.cc_messages.specs.declared.command.Command.TheVariants as command;
+ghost use Rattle.cc_messages.specs.declared.event.Event.TheVariants as event;
 ghost use Rattle.cc_laws.specs.Orders.{IsFollowedBy};
-ghost use Rattle.cc_laws.specs.Clusters.{Cluster, Move};
+ghost use Rattle.cc_laws.specs.Clusters.{Member, Cluster, Move, Accept, Crash};
 ghost use Rattle.cc_laws.specs.Runs.{Run, IsFreshCluster};
 ghost use Rattle.cc_laws.specs.Regular.{IsAnswered, IsStored, IsAhead, SeesWrite, RoundsMeet, ShareNode};
 ghost use Rattle.cc_laws.specs.ReadBack.{IsDone};
@@ -100,9 +102,22 @@ pub fn shared_nodes_tell_readings()
 
 /// The premises of `members_collect_regularly` can be met: two nodes that stay the only members store and collect. Node 1 is
 /// asked to store, in session 7, and is answered; node 2 hadn't been asked by then in session 9, is asked to collect, and is
-/// answered.
+/// answered. Meanwhile another ask waits at node 2, with a share of 32. Node 1 lets what it posted to node 2 lapse, and posts a
+/// snapshot; node 2 hears that at a gap, crashes before it is durable, and hears it again.
 pub fn two_nodes_collect()
     ensures { (c mid d : Cluster) × (first second : List (ℕ × Move)) × (v : ViewMap) × IsFreshCluster c × Run c first mid × Run mid second d
         × IsFixedCluster (1 ∷ 2 ∷ []) c × AllByRecursion (λ move. Stays move.1) first × AllByRecursion (λ move. Stays move.1) second
-        × IsStored mid 1 1 7 1 × IsAhead mid 2 9 1 × IsAnswered d 2 9 1 (answer.Seen v) }
+        × IsStored mid 1 1 7 1 × IsAhead mid 2 9 1 × IsAnswered d 2 9 1 (answer.Seen v)
+        × ((q : ℕ) (m : Member) → table.get c.members q ≡ Some m → m.opening.share ≡ 32)
+        × Contains second (2, Accept (event.Ask 10 1 command.Collect)) × Contains second (1, Accept (event.Lapse 2))
+        × Contains second (1, Accept event.Snapshot) × Contains second (2, Crash 3) }
+{}
+
+/// The premises of `shared_nodes_tell` can be met by a node that enters. Node 1 is alone, is asked to store, in session 7, and
+/// is answered. Then node 2 enters and joins, is asked to collect, in session 9, and is answered: node 1 acknowledged what was
+/// stored, and replied to the query.
+pub fn an_entrant_shares_a_node()
+    ensures { (c mid d : Cluster) × (first second : List (ℕ × Move)) × (entrant : Member) × (v : ViewMap)
+        × IsFreshCluster c × Run c first mid × Run mid second d × IsStored mid 1 1 7 1 × IsAhead mid 2 9 1 × ShareNode mid d 1 7 1 2 9 1
+        × IsAnswered d 2 9 1 (answer.Seen v) × (table.get d.members 2 ≡ Some entrant) × (entrant.opening.initial ≡ []) }
 {}

@@ -21,7 +21,6 @@ use Rattle.cc_churn.specs.Churn as churn
 use Rattle.cc_links.specs.Links.{Link, Links, heard_from, awaits_any, awaits_ack}
 use Rattle.cc_links.specs.LinkLaws.{lapse_is_ack, lapse_is_news}
 use Rattle.cc_ops.specs.Ops as ops
-use Rattle.cc_ops.specs.OwnLaws.{AsksAnewAlone, anew_keeps}
 use Rattle.cc_node.specs.Core.{Core, quorum, churned, told_if, churn_told, asks_anew, anew_if, ops_anew, next}
 use Rattle.cc_node.specs.Refusals.{decides, row_overruns}
 use Rattle.cc_node.proofs.Deciding.{ack_refused, last_one}
@@ -44,15 +43,10 @@ unfolding next
 lapse_next c q l e = ap (λ (ls : Links). record c { links = ls; posts = c.posts + 0 }) (lapse_is_ack c.posts q c.links l e)
 
 pub anew_alone : (c : Core) (from n : ℕ) (d : ChangeSets) (v : ViewMap) → asks_anew c from n (message.Snapshot d v) ≡ true
-    → (let after = next c (event.Deliver from n (message.Snapshot d v)) in AsksAnewAlone (quorum after) (ops.merged v c.ops) after.ops)
+    → (let after = next c (event.Deliver from n (message.Snapshot d v)) in after.ops ≡ ops.anew (quorum after) (ops.merged v c.ops))
 unfolding next
 anew_alone c from n d v asks =
-    let m = message.Snapshot d v in
-    kept (asks_anew c from n m) _ (ops.merged v c.ops) asks
-  where
-    kept : (b : Bool) (q : ℕ) (s : ops.Ops) → b ≡ true → AsksAnewAlone q s (anew_if b q s)
-    kept true q s e = anew_keeps q s
-    kept false q s e = cc
+    ap (λ b. anew_if b (churn.quorum c.beta (churn_told c from n (message.Snapshot d v))) (ops.merged v c.ops)) asks
 
 pub not_churned : (c : Core) (from n : ℕ) (m : Message) → is_snapshot m ≡ false → churn_told c from n m ≡ churned c m
 not_churned c from n m e = ap (λ b. told_if b c.me c.gamma (churned c m)) (not_told c from n m e)

@@ -22,7 +22,7 @@ use Rattle.cc_churn.specs.Churn as churn
 use Rattle.cc_churn.specs.Churn.{Churn}
 use Rattle.cc_ops.specs.Ops as ops
 use Rattle.cc_ops.specs.Ops.{Ops, Phase, Idle, StoringBack, unanswered, mine_at_last}
-use Rattle.cc_ops.specs.OwnLaws.{anew_keeps}
+use Rattle.cc_ops.specs.OwnLaws.{asked_again}
 use Rattle.cc_ops.specs.Stages.{stage_of, WaitsBehind}
 use Rattle.cc_ops.specs.Waiting.{AreApart}
 use Rattle.cc_ops.specs.declared.pending.Asked.{Asked}
@@ -85,7 +85,7 @@ anew_last b q s = cond_both b (ops.anew q s) s (λ (t : Ops). mine_at_last t ≡
 pub anew_unanswered : (b : Bool) (q : ℕ) (s : Ops) → unanswered (anew_if b q s) ≡ unanswered s
 anew_unanswered b q s =
     cond_both b (ops.anew q s) s (λ (t : Ops). unanswered t ≡ unanswered s)
-    (λ _. ap (λ (l : List Asked). (l ++ s.others) ++ s.line) (anew_keeps q s).asked) (λ _. refl)
+    (λ _. ap (λ (l : List Asked). (l ++ s.others) ++ s.line) (asked_again q s.phase)) (λ _. refl)
 
 pub anew_tag : (b : Bool) (q : ℕ) (s : Ops) (n : ℕ) → (b ≡ true → s.tag ≡ n) → s.tag ≤ n + 1 → (anew_if b q s).tag ≤ n + 1
 anew_tag b q s n same up = cond_both b (ops.anew q s) s (λ t. t.tag ≤ n + 1) (λ e. omega (arith, same e)) (λ _. up)
@@ -119,7 +119,7 @@ anew_ops ls ss b q s some few h =
       line = record {
         behind = behind_anew q s.phase s.line h.line.behind;
         few = h.line.few;
-        apart = subst AreApart (sym (ap (λ (l : List Asked). (l ++ s.others) ++ s.line) (anew_keeps q s).asked)) h.line.apart;
+        apart = subst AreApart (sym (ap (λ (l : List Asked). (l ++ s.others) ++ s.line) (asked_again q s.phase))) h.line.apart;
         last = h.line.last;
         round = goes_on h.line.round (beside_anew q s.phase s.others h.line.round.alike);
       };

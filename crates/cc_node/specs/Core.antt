@@ -1,8 +1,9 @@
 -- The core of a node, and what one event makes of it and puts out.
 --     Core            the plain state
 --     begun C e       the asks that an event begins
+--     heard C from n m     what each message does
+--     with_snapshot   what a snapshot may do beside: it counts as an echo, and a phase begins anew (tells, asks_anew)
 --     next C e        the state after an event
---     tells, asks_anew     of a snapshot, beside a union and a merge: it counts as an echo, and a phase begins anew
 --     made C e        the acknowledgement, the post and the answers that it makes
 --     outputs C e     what is put out for it, in order
 use Rattle.std.specs.Prelude.{ℕ, ◌+◌, ◌-◌, ◌==◌, ◌&&◌, ◌||◌, nat_lt, not, Bool, false, if◌then◌else◌, List, [], ◌∷◌, ◌++◌, map, Option, Some, None}
@@ -62,16 +63,24 @@ ids_of (message.Snapshot c v) = set.items c.entered ++ set.items c.joined ++ set
 abbrev pub with_links : List ℕ → Core → Core
 with_links ids c = record c { links = links.add_all c.posts ids c.links }
 
--- whether a number leaves out some that were sent before it
-abbrev pub skips : Core → ℕ → ℕ → Bool
-skips c from n = nat_lt (links.heard_from from c.links + 1) n
+-- ---- a message
 
--- the links after a delivery, and who entered, joined and left by its message
+-- who entered, joined and left by it, and the links: one to each node that it names, and its number is heard of its sender
+abbrev pub churned : Core → Message → churn.Churn
+churned c m = churn.after_message c.me c.gamma m c.churn
+
 abbrev pub links_heard : Core → ℕ → ℕ → Message → Links
 links_heard c from n m = links.hear from n (links.add_all c.posts (from ∷ ids_of m) c.links)
 
-abbrev pub churned : Core → Message → churn.Churn
-churned c m = churn.after_message c.me c.gamma m c.churn
+-- what each message does; a snapshot may do more
+abbrev pub heard : Core → ℕ → ℕ → Message → Core
+heard c from n m = record c { churn = churned c m; ops = ops.after_message c.me (quorum c) m c.ops; links = links_heard c from n m }
+
+-- ---- a snapshot
+
+-- whether a number leaves out some that were sent before it
+abbrev pub skips : Core → ℕ → ℕ → Bool
+skips c from n = nat_lt (links.heard_from from c.links + 1) n
 
 -- whether it is a snapshot by which a node has entered
 abbrev pub is_told_of : ℕ → Message → Bool
@@ -89,9 +98,6 @@ tells c from n m = is_told_of c.me m && (skips c from n && lacks_echo c from n m
 abbrev pub told_if : Bool → ℕ → Fraction → churn.Churn → churn.Churn
 told_if b me gamma s = if b then churn.told me gamma s else s
 
-abbrev pub churn_told : Core → ℕ → ℕ → Message → churn.Churn
-churn_told c from n m = told_if (tells c from n m) c.me c.gamma (churned c m)
-
 -- whether the pending phase begins anew: the own snapshot came, or one that skips, so that answers may be lost
 abbrev pub asks_anew : Core → ℕ → ℕ → Message → Bool
 asks_anew c from n m = is_snapshot m && (not (ops.is_idle c.ops.phase) && ((from == c.me) || skips c from n))
@@ -99,9 +105,21 @@ asks_anew c from n m = is_snapshot m && (not (ops.is_idle c.ops.phase) && ((from
 abbrev pub anew_if : Bool → ℕ → ops.Ops → ops.Ops
 anew_if b quorum s = if b then ops.anew quorum s else s
 
--- with the need of those that are members then
+-- it counts as an echo where it `tells`; then the pending phase begins anew where it `asks_anew`, with the need of those that are members
+-- by then
+abbrev pub with_snapshot : (echoes again : Bool) → Core → Core
+with_snapshot echoes again c =
+    let d = record c { churn = told_if echoes c.me c.gamma c.churn } in
+    record d { ops = anew_if again (quorum d) d.ops }
+
+-- the parts of it
+abbrev pub churn_told : Core → ℕ → ℕ → Message → churn.Churn
+churn_told c from n m = told_if (tells c from n m) c.me c.gamma (churned c m)
+
 abbrev pub ops_anew : Core → ℕ → ℕ → Message → ops.Ops
 ops_anew c from n m = anew_if (asks_anew c from n m) (churn.quorum c.beta (churn_told c from n m)) (ops.after_message c.me (quorum c) m c.ops)
+
+-- ---- an event
 
 abbrev pub asked_of : ℕ → ℕ → Command → Asked
 asked_of s r command = record { session = s; request = r; command = command }
@@ -116,7 +134,7 @@ begun c _ = []
 abbrev pub handled : Core → Event → Core
 handled c event.Enter = record c { churn = churn.with_entered c.me c.churn }
 handled c event.Leave = record c { churn = churn.with_left c.me c.churn }
-handled c (event.Deliver from n m) = record c { churn = churn_told c from n m; ops = ops_anew c from n m; links = links_heard c from n m }
+handled c (event.Deliver from n m) = with_snapshot (tells c from n m) (asks_anew c from n m) (heard c from n m)
 handled c (event.Acked peer n) = record c { links = links.ack peer n c.links }
 handled c (event.Ask s r command) = record c {
   ops = ops.after_ask c.me (quorum c) (asked_of s r command) c.ops;

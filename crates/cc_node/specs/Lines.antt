@@ -10,9 +10,4 @@ abbrev pub Follows : Output → Output → Type 0
 Follows (output.Send to number m) (output.Send peer later k) = to ≡ peer → number < later
 Follows (output.Ack to number) (output.Ack peer later) = to ≡ peer → number < later
 Follows (output.Reply s request a) (output.Reply session later b) = s ≡ session → request < later
-Follows (output.Send to number m) (output.Ack peer later) = ⊤
-Follows (output.Send to number m) (output.Reply session later b) = ⊤
-Follows (output.Ack to number) (output.Send peer later k) = ⊤
-Follows (output.Ack to number) (output.Reply session later b) = ⊤
-Follows (output.Reply s request a) (output.Send peer later k) = ⊤
-Follows (output.Reply s request a) (output.Ack peer later) = ⊤
+Follows _ _ = ⊤

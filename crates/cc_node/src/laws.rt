@@ -14,8 +14,7 @@ ghost use Rattle.cc_messages.specs.declared.message.Message.{Message};
 ghost use Rattle.cc_messages.specs.declared.event.Event.{Event};
 ghost use Rattle.cc_messages.specs.declared.event.Event.TheVariants as event;
 ghost use Rattle.cc_messages.specs.declared.message.Message.TheVariants as message;
-ghost use Rattle.cc_ops.specs.Ops.{merged, after_message};
-ghost use Rattle.cc_ops.specs.OwnLaws.{AsksAnewAlone};
+ghost use Rattle.cc_ops.specs.Ops.{anew, merged, after_message};
 ghost use Rattle.cc_messages.specs.declared.output.Output.{Output};
 ghost use Rattle.cc_ops.specs.declared.pending.Asked.{Asked};
 ghost use Rattle.cc_ops.specs.Rounds.{first_round, line_behind, of_kind, IsAt, ComesOn};
@@ -149,11 +148,11 @@ pub fn others_stay()
         ≡ overruns (heard_from from c.links) (heard_from from (next c (event.Deliver from n m)).links) }
 {}
 
-/// A phase that begins anew is no new operation: beside the union and the merge of the snapshot it changes the tag, the
-/// need and the count alone. It needs the quorum of then, and has no answer.
+/// Where a snapshot has a phase begin anew, the operation is `anew` with the quorum of then, beside the merge of the
+/// snapshot's view, and the sessions stay. `anew` is no new operation (`cc_ops`: `anew_keeps_the_operation`).
 pub fn asks_anew_alone()
     ensures { (c : Core) (from n : ℕ) (d : ChangeSets) (v : ViewMap) → asks_anew c from n (message.Snapshot d v) ≡ true
-        → AsksAnewAlone (quorum (next c (event.Deliver from n (message.Snapshot d v)))) (merged v c.ops)
-        (next c (event.Deliver from n (message.Snapshot d v))).ops
+        → ((next c (event.Deliver from n (message.Snapshot d v))).ops
+        ≡ anew (quorum (next c (event.Deliver from n (message.Snapshot d v)))) (merged v c.ops))
         × ((next c (event.Deliver from n (message.Snapshot d v))).sessions ≡ c.sessions) }
 {}

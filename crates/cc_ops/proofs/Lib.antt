@@ -1,2 +1,3 @@
 mod Rooms
 mod Telling
+mod AnewLaws

@@ -26,31 +26,19 @@ is_writing command.ReadSet = false
 
 abbrev pub written : Command → Value → Value
 written (command.Store text) mine = record mine { text = text }
-written command.Collect mine = mine
 written (command.WriteMax x) mine = record mine { max = max mine.max x }
-written command.ReadMax mine = mine
 written command.SetFlag mine = record mine { flag = true }
-written command.ReadFlag mine = mine
 written (command.AddMember x) mine = record mine { set = set.insert mine.set x }
-written command.ReadSet mine = mine
+written _ mine = mine
 
 abbrev pub answer_of : Command → ViewMap → Answer
-answer_of (command.Store text) v = answer.Stored
 answer_of command.Collect v = answer.Seen v
-answer_of (command.WriteMax x) v = answer.Stored
 answer_of command.ReadMax v = answer.Max (max_of v)
-answer_of command.SetFlag v = answer.Stored
 answer_of command.ReadFlag v = answer.Flag (flag_of v)
-answer_of (command.AddMember x) v = answer.Stored
 answer_of command.ReadSet v = answer.Set (set_of v)
+answer_of _ v = answer.Stored
 
 -- whether a command finds no room in the set slot
 abbrev pub finds_no_room : Value → Command → Bool
-finds_no_room mine (command.Store text) = false
-finds_no_room mine command.Collect = false
-finds_no_room mine (command.WriteMax x) = false
-finds_no_room mine command.ReadMax = false
-finds_no_room mine command.SetFlag = false
-finds_no_room mine command.ReadFlag = false
 finds_no_room mine (command.AddMember x) = (set.len mine.set == set_limit) && not (set.contains mine.set x)
-finds_no_room mine command.ReadSet = false
+finds_no_room mine _ = false

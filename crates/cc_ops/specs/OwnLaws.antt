@@ -6,7 +6,7 @@
 --     AnswersRound, message_answers   the pending asks are all answered, in their order, or none is
 --     EndsRound, message_ends  where any is answered, the first round of the line begins, and what is left waits
 --     IsRound, first_is_round  of a round whose first ask reads none writes;  the first of a line is one
---     AsksAnewAlone, anew_keeps       a phase that begins anew is the same round's, under the next tag
+--     AsksAnewAlone            a phase that begins anew is the same round's, under the next tag;  asked_again, seen_again: of it
 use Rattle.std.specs.Prelude.{◌≡◌, ℕ, zero, suc, ◌+◌, ◌⊎◌, Bool, true, false, if◌then◌else◌, List, [], ◌∷◌, ◌++◌, map, refl, ⊤}
 use Rattle.std.proofs.Common.{sym, ap, subst, ◌∙◌, add-zero, arith, inl, inr}
 use Rattle.std.proofs.lemmas.Bool.{cond_both}
@@ -24,7 +24,7 @@ use Rattle.cc_ops.specs.Waiting.{writes_by, written_by}
 pub use Rattle.cc_ops.specs.WaitingLaws.{reading_leaves}
 use Rattle.cc_ops.specs.WaitingLaws.{written_last, written_both, no_writes}
 use Rattle.cc_ops.specs.Ops.{Ops, Phase, Idle, Storing, Querying, StoringBack, is_idle, seen_in, round_of, counted, is_last, is_own, merged}
-use Rattle.cc_ops.specs.Ops.{next_round, again, anew, begin_round, with_own_row, with_written, after_ask, after_reply, after_last, after_ack}
+use Rattle.cc_ops.specs.Ops.{next_round, again, begin_round, with_own_row, with_written, after_ask, after_reply, after_last, after_ack}
 use Rattle.cc_ops.specs.Ops.{after_message, begun_by_ask, begun_in, begun_by, told, replies_in, replies_of, asked_in, pending, unanswered}
 use Rattle.cc_ops.specs.Ops.{mine_at_last, awaits_views, answers_in, need_in}
 
@@ -149,13 +149,7 @@ either_own P false t s o h k = k
 each_message : (P : Ops → List Asked → Type 0) (me quorum : ℕ) (m : Message) (s : Ops)
     → ((v : ViewMap) (p : Phase) (tag : ℕ) → P (record s { view = v; phase = p; tag = tag }) []) → P (after_last me quorum s) (first_round s.share s.line)
     → P (after_message me quorum m s) (begun_by me m s)
-each_message P me quorum (message.Enter q) s more last = more s.view s.phase s.tag
 each_message P me quorum (message.EnterEcho c v j q) s more last = more (merge s.view v) s.phase s.tag
-each_message P me quorum (message.Join q) s more last = more s.view s.phase s.tag
-each_message P me quorum (message.JoinEcho q) s more last = more s.view s.phase s.tag
-each_message P me quorum (message.Leave q) s more last = more s.view s.phase s.tag
-each_message P me quorum (message.LeaveEcho q) s more last = more s.view s.phase s.tag
-each_message P me quorum (message.Query tag q) s more last = more s.view s.phase s.tag
 each_message P me quorum (message.QueryReply v tag q) s more last =
     cond_both (is_own me tag q s) (after_reply quorum v s.phase s) s (λ t. P t [])
     (λ _. either_reply (λ t. P t []) quorum v s.phase s (more s.view s.phase s.tag) (λ p t. more (merge s.view v) p t)) (λ _. more s.view s.phase s.tag)
@@ -164,6 +158,7 @@ each_message P me quorum (message.StoreAck tag q) s more last =
     either_own P (is_own me tag q s) (after_ack me quorum s.phase s) s (begun_in s.phase s)
     (each_ack P me quorum s.phase s (more s.view s.phase s.tag) last (λ p. more s.view p s.tag)) (more s.view s.phase s.tag)
 each_message P me quorum (message.Snapshot c v) s more last = more (merge s.view v) s.phase s.tag
+each_message P me quorum _ s more last = more s.view s.phase s.tag
 
 pub message_number : (me quorum : ℕ) (m : Message) (s : Ops) → (after_message me quorum m s).number ≡ s.number + writes_by (begun_by me m s)
 message_number me quorum m s =
@@ -292,27 +287,19 @@ ack_answers me quorum (StoringBack p seen) s e =
     either_told me quorum (is_last p) seen (p.asked ∷ s.others) (StoringBack (counted p) seen) s are (ap (λ (l : List Asked). l ++ s.line) (sym are))
 
 pub message_answers : (me quorum : ℕ) (m : Message) (s : Ops) → AnswersRound s (after_message me quorum m s) (replies_of me m s)
-message_answers me quorum (message.Enter q) s = inl (refl, refl)
-message_answers me quorum (message.EnterEcho c v j q) s = inl (refl, refl)
-message_answers me quorum (message.Join q) s = inl (refl, refl)
-message_answers me quorum (message.JoinEcho q) s = inl (refl, refl)
-message_answers me quorum (message.Leave q) s = inl (refl, refl)
-message_answers me quorum (message.LeaveEcho q) s = inl (refl, refl)
-message_answers me quorum (message.Query tag q) s = inl (refl, refl)
 message_answers me quorum (message.QueryReply v tag q) s =
     inl (
       refl,
       cond_both (is_own me tag q s) (after_reply quorum v s.phase s) s (λ (t : Ops). unanswered t ≡ unanswered s)
           (λ _. reply_unanswered quorum v s.phase s refl) (λ _. refl),
     )
-message_answers me quorum (message.Store v tag q) s = inl (refl, refl)
 message_answers me quorum (message.StoreAck tag q) s =
     elim (is_own me tag q s)
     as (λ b. AnswersRound s (if b then after_ack me quorum s.phase s else s) (if b then replies_in s.view s.others s.phase else [])) [
       | true ↦ ack_answers me quorum s.phase s refl
       | false ↦ inl (refl, refl)
     ]
-message_answers me quorum (message.Snapshot c v) s = inl (refl, refl)
+message_answers me quorum _ s = inl (refl, refl)
 
 -- where clients are told, the first round of the line begins, and what is left waits; else all wait on
 abbrev pub EndsRound : Ops → List Reply → List Asked → List Asked → Type 0
@@ -331,20 +318,12 @@ ack_ends me quorum (Querying p) s = inl (refl, refl)
 ack_ends me quorum (StoringBack p seen) s = either_ends me quorum (is_last p) (told seen p.asked) (map (told seen) s.others) (StoringBack (counted p) seen) s
 
 pub message_ends : (me quorum : ℕ) (m : Message) (s : Ops) → EndsRound s (replies_of me m s) (begun_by me m s) (after_message me quorum m s).line
-message_ends me quorum (message.Enter q) s = inl (refl, refl)
-message_ends me quorum (message.EnterEcho c v j q) s = inl (refl, refl)
-message_ends me quorum (message.Join q) s = inl (refl, refl)
-message_ends me quorum (message.JoinEcho q) s = inl (refl, refl)
-message_ends me quorum (message.Leave q) s = inl (refl, refl)
-message_ends me quorum (message.LeaveEcho q) s = inl (refl, refl)
-message_ends me quorum (message.Query tag q) s = inl (refl, refl)
 message_ends me quorum (message.QueryReply v tag q) s =
     inl (
       refl,
       cond_both (is_own me tag q s) (after_reply quorum v s.phase s) s (λ (t : Ops). t.line ≡ s.line)
           (λ _. either_reply (λ (t : Ops). t.line ≡ s.line) quorum v s.phase s refl (λ p tag. refl)) (λ _. refl),
     )
-message_ends me quorum (message.Store v tag q) s = inl (refl, refl)
 message_ends me quorum (message.StoreAck tag q) s =
     elim (is_own me tag q s)
     as (λ b. EndsRound s (if b then replies_in s.view s.others s.phase else []) (if b then begun_in s.phase s else [])
@@ -352,7 +331,7 @@ message_ends me quorum (message.StoreAck tag q) s =
       | true ↦ ack_ends me quorum s.phase s
       | false ↦ inl (refl, refl)
     ]
-message_ends me quorum (message.Snapshot c v) s = inl (refl, refl)
+message_ends me quorum _ s = inl (refl, refl)
 
 -- ---- a phase that begins anew
 
@@ -373,49 +352,11 @@ pub record AsksAnewAlone (quorum : ℕ) (before after : Ops) : Type 0 where
   pub none : answers_in after.phase ≡ 0
   pub need : is_idle before.phase ≡ false → need_in after.phase ≡ quorum
 
-asked_again : (quorum : ℕ) (phase : Phase) → asked_in (again quorum phase) ≡ asked_in phase
+pub asked_again : (quorum : ℕ) (phase : Phase) → asked_in (again quorum phase) ≡ asked_in phase
 asked_again quorum Idle = refl
-asked_again quorum (Storing p) = refl
-asked_again quorum (Querying p) = refl
-asked_again quorum (StoringBack p seen) = refl
+asked_again quorum _ = refl
 
-seen_again : (quorum : ℕ) (phase : Phase) → seen_in (again quorum phase) ≡ seen_in phase
+pub seen_again : (quorum : ℕ) (phase : Phase) → seen_in (again quorum phase) ≡ seen_in phase
 seen_again quorum Idle = refl
-seen_again quorum (Storing p) = refl
-seen_again quorum (Querying p) = refl
 seen_again quorum (StoringBack p seen) = refl
-
-idle_again : (quorum : ℕ) (phase : Phase) → is_idle (again quorum phase) ≡ is_idle phase
-idle_again quorum Idle = refl
-idle_again quorum (Storing p) = refl
-idle_again quorum (Querying p) = refl
-idle_again quorum (StoringBack p seen) = refl
-
-awaited_again : (quorum : ℕ) (phase : Phase) → awaits_views (again quorum phase) ≡ awaits_views phase
-awaited_again quorum Idle = refl
-awaited_again quorum _ = refl
-
-none_again : (quorum : ℕ) (phase : Phase) → answers_in (again quorum phase) ≡ 0
-none_again quorum Idle = refl
-none_again quorum _ = refl
-
-need_again : (quorum : ℕ) (phase : Phase) → is_idle phase ≡ false → need_in (again quorum phase) ≡ quorum
-need_again quorum Idle busy = cc
-need_again quorum _ busy = refl
-
-pub anew_keeps : (quorum : ℕ) (s : Ops) → AsksAnewAlone quorum s (anew quorum s)
-anew_keeps quorum s = record {
-  view = refl;
-  number = refl;
-  mine = refl;
-  tag = refl;
-  share = refl;
-  others = refl;
-  line = refl;
-  asked = asked_again quorum s.phase;
-  seen = seen_again quorum s.phase;
-  idle = idle_again quorum s.phase;
-  awaited = awaited_again quorum s.phase;
-  none = none_again quorum s.phase;
-  need = need_again quorum s.phase;
-}
+seen_again quorum _ = refl

@@ -48,54 +48,30 @@ more_members s k false h a e =
     ]
 
 pub written_fits : (k : Command) (mine : Value) → finds_no_room mine k ≡ false → set.len mine.set ≤ set_limit → set.len (written k mine).set ≤ set_limit
-written_fits (command.Store text) mine e h = h
-written_fits command.Collect mine e h = h
-written_fits (command.WriteMax x) mine e h = h
-written_fits command.ReadMax mine e h = h
-written_fits command.SetFlag mine e h = h
-written_fits command.ReadFlag mine e h = h
 written_fits (command.AddMember x) mine e h =
     more_members (set.len mine.set) (set.len (set.insert mine.set x)) (set.contains mine.set x) e h (set.len-insert mine.set x)
-written_fits command.ReadSet mine e h = h
+written_fits _ mine e h = h
 
 room_was_there : (s k : ℕ) (b : Bool) → k ≡ cond b s (s + 1) → k ≤ set_limit → ((s == set_limit) && not b) ≡ false
 room_was_there s k true e h = elim (s == set_limit) as (λ b. (b && false) ≡ false) [ true ↦ refl | false ↦ refl ]
 room_was_there s k false e h = ap (λ b. b && true) (ne_eqb s set_limit (omega (arith, e, h)))
 
 pub fits_written : (k : Command) (mine : Value) → set.len (written k mine).set ≤ set_limit → finds_no_room mine k ≡ false
-fits_written (command.Store text) mine h = refl
-fits_written command.Collect mine h = refl
-fits_written (command.WriteMax x) mine h = refl
-fits_written command.ReadMax mine h = refl
-fits_written command.SetFlag mine h = refl
-fits_written command.ReadFlag mine h = refl
 fits_written (command.AddMember x) mine h = room_was_there (set.len mine.set) (set.len (set.insert mine.set x)) (set.contains mine.set x)
     (set.len-insert mine.set x) h
-fits_written command.ReadSet mine h = refl
+fits_written _ mine h = refl
 
 -- what was put in stays, whatever else is
 
 more_within : (k : Command) (mine more : Value) → IsWithin mine.set more.set → IsWithin (written k mine).set (written k more).set
-more_within (command.Store text) mine more h = h
-more_within command.Collect mine more h = h
-more_within (command.WriteMax x) mine more h = h
-more_within command.ReadMax mine more h = h
-more_within command.SetFlag mine more h = h
-more_within command.ReadFlag mine more h = h
 more_within (command.AddMember x) mine more h =
     insert_within mine.set (set.insert more.set x) x tt (λ q there. within_insert more.set x tt q (h q there))
     (contains-insert more.set x x ∙ or_left _ _ (eq-eqb x x refl))
-more_within command.ReadSet mine more h = h
+more_within _ mine more h = h
 
 pub written_within : (k : Command) (mine : Value) → IsWithin mine.set (written k mine).set
-written_within (command.Store text) mine q h = h
-written_within command.Collect mine q h = h
-written_within (command.WriteMax x) mine q h = h
-written_within command.ReadMax mine q h = h
-written_within command.SetFlag mine q h = h
-written_within command.ReadFlag mine q h = h
 written_within (command.AddMember x) mine q h = within_insert mine.set x tt q h
-written_within command.ReadSet mine q h = h
+written_within _ mine q h = h
 
 pub all_within : (asks : List Asked) (mine more : Value) → IsWithin mine.set more.set → IsWithin (written_by asks mine).set (written_by asks more).set
 all_within [] mine more h = h

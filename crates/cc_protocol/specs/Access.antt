@@ -22,11 +22,9 @@ operator_alone = record { asks = false; nodes = false; operators = true }
 
 -- what a node tells itself comes over no connection
 abbrev pub allows : Access → Event → Bool
-allows access event.Enter = false
 allows access event.Leave = access.operators
 allows access (event.Deliver from number m) = access.nodes
 allows access (event.Acked peer number) = access.nodes
 allows access (event.Ask session request command) = access.asks
 allows access (event.Retire node) = access.operators
-allows access (event.Lapse node) = false
-allows access event.Snapshot = false
+allows access _ = false

@@ -21,41 +21,24 @@ free_posts kept = post_limit - kept
 
 -- the two echoes that end what they echo are never answered, and answers to the operation of another node are its alone
 abbrev pub may_stir : ℕ → Message → Bool
-may_stir me (message.Enter q) = true
-may_stir me (message.EnterEcho changes view from_joined q) = true
-may_stir me (message.Join q) = true
 may_stir me (message.JoinEcho q) = false
-may_stir me (message.Leave q) = true
 may_stir me (message.LeaveEcho q) = false
-may_stir me (message.Query tag q) = true
 may_stir me (message.QueryReply view tag q) = q == me
-may_stir me (message.Store view tag q) = true
 may_stir me (message.StoreAck tag q) = q == me
-may_stir me (message.Snapshot changes view) = true
+may_stir me _ = true
 
 -- an ask leaves room for 384 posts, unless it waited ten seconds, and then the node decides; an ask under number 0 is always refused,
 -- so it needs no room; a message that may be answered leaves room for 256, unless it comes from one of the peers that are furthest behind: they are read on, since their
 -- acknowledgements, which come behind it, are what makes room
 abbrev pub may_hand_over : ℕ → Event → ℕ → Bool → ℕ → Bool
-may_hand_over me event.Enter kept is_furthest waited = true
-may_hand_over me event.Leave kept is_furthest waited = true
 may_hand_over me (event.Deliver from number m) kept is_furthest waited = not (may_stir me m) || (is_furthest || nat_le 256 (free_posts kept))
-may_hand_over me (event.Acked peer number) kept is_furthest waited = true
 may_hand_over me (event.Ask session request command) kept is_furthest waited = (request == 0) || (nat_le 10 waited || nat_le 384 (free_posts kept))
-may_hand_over me (event.Retire node) kept is_furthest waited = true
-may_hand_over me (event.Lapse node) kept is_furthest waited = true
-may_hand_over me event.Snapshot kept is_furthest waited = true
+may_hand_over me _ kept is_furthest waited = true
 
 -- a message that was held back for five seconds: its link sends it again
 abbrev pub is_given_up : Event → ℕ → Bool
-is_given_up event.Enter waited = false
-is_given_up event.Leave waited = false
 is_given_up (event.Deliver from number m) waited = nat_le 5 waited
-is_given_up (event.Acked peer number) waited = false
-is_given_up (event.Ask session request command) waited = false
-is_given_up (event.Retire node) waited = false
-is_given_up (event.Lapse node) waited = false
-is_given_up event.Snapshot waited = false
+is_given_up _ waited = false
 
 -- of the links to peers that haven't left, its link is one of those that have come least far
 abbrev pub is_furthest_behind : Core → ℕ → Bool

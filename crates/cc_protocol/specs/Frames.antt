@@ -34,11 +34,7 @@ refusing session request why = frame.Refused session request (number_of why) (va
 
 -- only what a client or the operator asked for is answered; a request of the operator has no session and no number
 abbrev pub refusal_frame : Event → Refusal → Option Frame
-refusal_frame event.Enter why = None
 refusal_frame event.Leave why = Some (refusing 0 0 why)
-refusal_frame (event.Deliver from number message) why = None
-refusal_frame (event.Acked peer number) why = None
 refusal_frame (event.Ask session request command) why = Some (refusing session request why)
 refusal_frame (event.Retire node) why = Some (refusing 0 0 why)
-refusal_frame (event.Lapse node) why = None
-refusal_frame event.Snapshot why = None
+refusal_frame _ why = None

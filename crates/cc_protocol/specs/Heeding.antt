@@ -38,25 +38,14 @@ heed_unasked session e refusal.Repeat = duty.Again session
 heed_unasked session e why = told e why
 
 abbrev pub heed_refused : Event → Refusal → Bool → Duty
-heed_refused event.Enter why differs = told event.Enter why
-heed_refused event.Leave why differs = told event.Leave why
 heed_refused (event.Deliver from number m) why differs = heed_undelivered from why
-heed_refused (event.Acked peer number) why differs = told (event.Acked peer number) why
 heed_refused (event.Ask session request command) why differs = heed_unasked session (event.Ask session request command) (told_of request differs why)
-heed_refused (event.Retire node) why differs = told (event.Retire node) why
-heed_refused (event.Lapse node) why differs = told (event.Lapse node) why
-heed_refused event.Snapshot why differs = told event.Snapshot why
+heed_refused e why differs = told e why
 
 -- a lapse makes the room that others wait for, though it makes no post; all others defer with the next batch
 abbrev pub heed_unstirred : Event → Duty
-heed_unstirred event.Enter = duty.Defer
-heed_unstirred event.Leave = duty.Defer
-heed_unstirred (event.Deliver from number m) = duty.Defer
-heed_unstirred (event.Acked peer number) = duty.Defer
-heed_unstirred (event.Ask session request command) = duty.Defer
-heed_unstirred (event.Retire node) = duty.Defer
 heed_unstirred (event.Lapse node) = duty.Wake
-heed_unstirred event.Snapshot = duty.Defer
+heed_unstirred _ = duty.Defer
 
 -- an accepted event that stirs made a post or an answer
 abbrev pub heed_of : Event → Result Bool Refusal → Bool → Duty

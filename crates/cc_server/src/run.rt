@@ -368,7 +368,7 @@ struct Begun<S: Site, L: Life, Q: Lane> {
     inlets: Inlets,
 }
 
-// From here on it is known of none of the life's events that they are durable, but by what a turn tells.
+// From here on the count 0 alone is known as durable; each later one comes from a turn.
 fn run_begun<L: Life + Send + Sync, Q: Lane + Send + Sync, S: Site + Drop, R, H: Hooks + Sync>(
     run: &Run<'_, R, H>,
     begun: Begun<S, L, Q>,

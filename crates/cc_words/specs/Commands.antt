@@ -33,23 +33,12 @@ pub record IsVisible (word : List ℕ) : Type 0 where
 
 abbrev pub IsSpoken : Command → Type 0
 IsSpoken (command.Store text) = IsVisible text
-IsSpoken command.Collect = ⊤
-IsSpoken (command.WriteMax n) = ⊤
-IsSpoken command.ReadMax = ⊤
-IsSpoken command.SetFlag = ⊤
-IsSpoken command.ReadFlag = ⊤
-IsSpoken (command.AddMember n) = ⊤
-IsSpoken command.ReadSet = ⊤
+IsSpoken _ = ⊤
 
 abbrev pub FitsNumber : Command → Type 0
-FitsNumber (command.Store text) = ⊤
-FitsNumber command.Collect = ⊤
 FitsNumber (command.WriteMax n) = n < 2 ^ 64
-FitsNumber command.ReadMax = ⊤
-FitsNumber command.SetFlag = ⊤
-FitsNumber command.ReadFlag = ⊤
 FitsNumber (command.AddMember n) = n < 2 ^ 32
-FitsNumber command.ReadSet = ⊤
+FitsNumber _ = ⊤
 
 pub record SaysCommand (words : List (List ℕ)) (c : Command) : Type 0 where
   pub spelled : words ≡ command_words c

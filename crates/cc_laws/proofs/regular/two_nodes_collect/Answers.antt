@@ -1,8 +1,29 @@
+use Rattle.std.proofs.Common.{arith, refl}
 use Rattle.cc_laws.proofs.TwoNodes.{view}
-use Rattle.cc_laws.proofs.WorkedRun.{start, mid, end, to_mid, to_end, is_fresh, is_fixed, is_stored, is_ahead, is_answered}
+use Rattle.cc_laws.proofs.WorkedRun.{start, mid, end, first_moves, second_moves, to_mid, to_end, first_stay, second_stay}
+use Rattle.cc_laws.proofs.WorkedRun.{is_fresh, is_fixed, is_stored, is_ahead, is_answered, shares}
 use Rattle.cc_laws.proofs.regular.two_nodes_collect.Goals as goal
 
 pub returns : goal.returns
-returns g =
-    let a = to_mid in let b = to_end in
-    (start, mid, end, a.moves, b.moves, view, is_fresh, a.run, b.run, is_fixed, a.stays, b.stays, is_stored, is_ahead, is_answered)
+returns g = (
+  start,
+  mid,
+  end,
+  first_moves,
+  second_moves,
+  view,
+  is_fresh,
+  to_mid.run,
+  to_end.run,
+  is_fixed,
+  first_stay,
+  second_stay,
+  is_stored,
+  is_ahead,
+  is_answered,
+  shares,
+  (3, omega arith, refl),
+  (9, omega arith, refl),
+  (12, omega arith, refl),
+  (16, omega arith, refl),
+)

@@ -1,6 +1,6 @@
 use Rattle.std.proofs.Common.{◌+◌, take, refl, sym, ◌∙◌, subst, ◌≡◌, true, false, Some, Ok}
 use Rattle.std.proofs.lemmas.Result.{err_from_is_err_and}
-use Rattle.cc_intake.specs.Turning.{Turning}
+use Rattle.cc_intake.specs.Turning.{Turning, tells}
 use Rattle.cc_intake.specs.Turns.{Turns}
 use Rattle.cc_intake.proofs.Handing.{turned_never, turned_full, lawful_batch, turned, turned_failed, kept_on, kept_failed}
 use Rattle.cc_intake.proofs.turner.Turner.turn.Goals as goal
@@ -34,6 +34,9 @@ pub returns-then-not-room-clause-turned : goal.returns-then-not-room-clause-turn
 returns-then-not-room-clause-turned g c =
     subst (λ t. Turns g.S.Site g.L.Life.reached t t (Ok (record { events = 0; full = true }))) c.self.view_is
     (turned_full g.S.Site g.L.Life.reached _ c.self.invariant.0.owes (sym c.fault.ensures ∙ c.in_default.is) (g.met.S.Site.only_now c.self.inside.engine.site))
+
+pub returns-then-not-room-clause-flushed : goal.returns-then-not-room-clause-flushed
+returns-then-not-room-clause-flushed g c = tells g.L.Life.flushed c.self.invariant.2 _
 
 pub returns-in_err-flush-clause-turned : goal.returns-in_err-flush-clause-turned
 returns-in_err-flush-clause-turned g c =
@@ -90,3 +93,6 @@ returns-clause-twin g c =
     c.gather-kept.ensures.lawful c.gather-kept.ensures.limit
     (sym c.fault.ensures ∙ c.in_default.is) c.in_ok-flush.ensures.flushed in
     kept.twin c.in_ok-flush.ensures.flushed.goes_on
+
+pub returns-clause-flushed : goal.returns-clause-flushed
+returns-clause-flushed g c = tells g.L.Life.flushed c.self.invariant.2 _
