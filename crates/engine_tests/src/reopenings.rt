@@ -12,66 +12,44 @@ use cc_views::NodeId;
 use std::alloc::Global;
 use std::process::Abort;
 
-// How many bytes the disk writes at once.
-const PAGE: usize = 16;
+// A place of a file: what reads show, what the disk has, and whether the next sync writes it.
+#[derive(Clone, Copy)]
+struct Byte {
+    shown: u8,
+    kept: u8,
+    is_dirty: bool,
+}
 
-// What a file shows, what the disk has of it, and which pages are still to be written.
+impl Byte {
+    const ZERO: Byte = Byte {
+        shown: 0,
+        kept: 0,
+        is_dirty: false,
+    };
+}
+
+// A file: its bytes, how many of them reads show, and how many the disk has.
 #[derive(Drop)]
 struct Pages {
-    shown: Vec<u8>,
-    kept: Vec<u8>,
-    dirty: Vec<bool>,
+    bytes: Vec<Byte>,
+    shown: usize,
+    kept: usize,
 }
 
 impl Pages {
     fn new(alloc: Global) -> Self {
         Pages {
-            shown: Vec::new(alloc),
-            kept: Vec::new(alloc),
-            dirty: Vec::new(alloc),
+            bytes: Vec::new(alloc),
+            shown: 0,
+            kept: 0,
         }
     }
 
-    // Marks the page of a place.
-    fn mark(&mut self, place: usize) -> bool {
-        let page = place / PAGE;
-        for _ in self.dirty.len()..=page {
-            if self.dirty.push(false).is_err() {
+    // Whether there was memory for so many places.
+    fn reach(&mut self, places: usize) -> bool {
+        for _ in self.bytes.len()..places {
+            if self.bytes.push(Byte::ZERO).is_err() {
                 return false;
-            }
-        }
-        if let Some(mark) = self.dirty.get_mut(page) {
-            *mark = true;
-        }
-        true
-    }
-
-    // Puts a byte at a place, or behind the last one. Whether there was memory.
-    fn put(&mut self, place: usize, byte: u8) -> bool {
-        match self.shown.get_mut(place) {
-            Some(old) => *old = byte,
-            None => {
-                if self.shown.push(byte).is_err() {
-                    return false;
-                }
-            }
-        }
-        self.mark(place)
-    }
-
-    // The disk gets each page that is still to be written. Whether there was memory.
-    fn keep(&mut self) -> bool {
-        self.kept.truncate(self.shown.len());
-        for (place, byte) in self.shown.iter().enumerate() {
-            let is_dirty = self.dirty.get(place / PAGE) == Some(&true);
-            match self.kept.get_mut(place) {
-                Some(old) if is_dirty => *old = *byte,
-                Some(_) => {}
-                None => {
-                    if self.kept.push(if is_dirty { *byte } else { 0 }).is_err() {
-                        return false;
-                    }
-                }
             }
         }
         true
@@ -79,39 +57,51 @@ impl Pages {
 
     fn read(&self, place: usize, into: &mut [u8]) {
         for (offset, byte) in into.iter_mut().enumerate() {
-            let place = place.saturating_add(offset);
-            *byte = self.shown.get(place).copied().unwrap_or(0);
+            let there = self.bytes.get(place.saturating_add(offset));
+            *byte = there.copied().unwrap_or(Byte::ZERO).shown;
         }
     }
 
     // Whether there was memory.
     fn write(&mut self, place: usize, bytes: &[u8]) -> bool {
-        let mut is_done = true;
-        for (offset, byte) in bytes.iter().enumerate() {
-            is_done &= self.put(place.saturating_add(offset), *byte);
+        let end = place.saturating_add(bytes.len());
+        let is_done = self.reach(end);
+        for (there, byte) in self.bytes.iter_mut().skip(place).zip(bytes) {
+            there.shown = *byte;
+            there.is_dirty = true;
         }
+        self.shown = self.shown.max(end);
         is_done
     }
 
-    // Whether there was memory.
-    fn cut(&mut self, len: usize) -> bool {
-        self.shown.truncate(len);
-        self.mark(len)
+    fn cut(&mut self, len: usize) {
+        for byte in self.bytes.iter_mut().skip(len) {
+            byte.shown = 0;
+            byte.is_dirty = true;
+        }
+        self.shown = self.shown.min(len);
     }
 
-    // The disk gets what is to be written, unless the sync fails or the power is gone. No page is to be written any more. Whether it
-    // is told as done.
-    fn sync(&mut self, fails: bool, has_power: bool) -> bool {
-        let is_done = !fails && (!has_power || self.keep());
-        self.dirty.clear();
-        is_done
+    // The disk gets what is to be written, unless the sync fails or the power is gone. Nothing is to be written any more.
+    fn sync(&mut self, is_written: bool) {
+        for byte in self.bytes.iter_mut() {
+            if is_written && byte.is_dirty {
+                byte.kept = byte.shown;
+            }
+            byte.is_dirty = false;
+        }
+        if is_written {
+            self.kept = self.shown;
+        }
     }
 
-    // Reads show what the disk has. Whether there was memory.
-    fn lose_power(&mut self) -> bool {
-        self.dirty.clear();
-        self.shown.clear();
-        self.shown.extend_from_slice(self.kept.as_slice()).is_ok()
+    // Reads show what the disk has.
+    fn lose_power(&mut self) {
+        for byte in self.bytes.iter_mut() {
+            byte.shown = byte.kept;
+            byte.is_dirty = false;
+        }
+        self.shown = self.kept;
     }
 }
 
@@ -157,10 +147,10 @@ impl ForgetfulSite {
     }
 
     // The site as the machine finds it when its power is back.
-    fn lose_power<R: Abort>(&mut self, rt: &R) {
-        let is_done = self.a.lose_power() && self.b.lose_power();
+    fn lose_power(&mut self) {
+        self.a.lose_power();
+        self.b.lose_power();
         self.power_until = u64::MAX;
-        assert!(rt; is_done, "there is memory");
     }
 }
 
@@ -190,7 +180,7 @@ impl Site for ForgetfulSite {
     ghost only_now = { λ _ honest _ _ _. absurd honest };
 
     fn length(&mut self, side: Side) -> Result<u64, DeviceFault> {
-        Ok(self.pages(side).shown.len() as u64)
+        Ok(self.pages(side).shown as u64)
     }
 
     fn read(&mut self, side: Side, place: u64, into: &mut [u8]) -> Result<(), DeviceFault> {
@@ -207,21 +197,21 @@ impl Site for ForgetfulSite {
     }
 
     fn cut(&mut self, side: Side, len: u64) -> Result<(), DeviceFault> {
-        let is_done = match side {
+        match side {
             Side::A => self.a.cut(len as usize),
             Side::B => self.b.cut(len as usize),
-        };
-        self.told(is_done, side, Call::Cut)
+        }
+        Ok(())
     }
 
     fn sync(&mut self, side: Side) -> Result<(), DeviceFault> {
         self.syncs = self.syncs.wrapping_add(1);
-        let fails = self.syncs == self.fails_at;
-        let has_power = self.syncs <= self.power_until;
-        let is_done = match side {
-            Side::A => self.a.sync(fails, has_power),
-            Side::B => self.b.sync(fails, has_power),
-        };
+        let is_done = self.syncs != self.fails_at;
+        let is_written = is_done && self.syncs <= self.power_until;
+        match side {
+            Side::A => self.a.sync(is_written),
+            Side::B => self.b.sync(is_written),
+        }
         self.told(is_done, side, Call::Sync)
     }
 
@@ -304,7 +294,7 @@ fn without_its_arming<R: Abort + AllocGlobal>(rt: &R) -> ForgetfulSite {
 // How many sessions an engine has that is opened after a power cut, if it can be opened.
 fn after_power_cut<R: Abort + AllocGlobal>(rt: &R, site: ForgetfulSite) -> Option<usize> {
     let mut site = site;
-    site.lose_power(rt);
+    site.lose_power();
     let engine = opened(rt, site).ok()?;
     let count = sessions(&engine);
     drop(engine);
