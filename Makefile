@@ -2,7 +2,8 @@
 .PHONY: try run install test check bench edits standing-edits must-not-compile refused-growths failing-calls kill-files \
     cluster load kill-cluster soak soak-absent hostile closed-streams dead-member refused-flood stray-frames many-sessions \
     stale-collects costs worked-rows trusted links beside look look-picture hostile-status mistakes deb test-systemd \
-    tls-cluster clients page-bytes one-session half-close idle-cluster power-cut slow-readers full-pipe operator-places
+    tls-cluster clients page-bytes one-session half-close idle-cluster power-cut slow-readers full-pipe operator-places many-nodes \
+    upgrade
 
 # Plays the script that ships with the program before any proof.
 try:
@@ -135,7 +136,17 @@ PAUSE = 0
 SHARE = 1
 load:
 	@$(BUILD) ccnode
-	@python3 tools/load.py crates/ccnode/out/ccnode 10 $(PAUSE) $(SHARE)
+	@$(if $(NODES),python3 tools/sizes.py crates/ccnode/out/ccnode $(NODES),python3 tools/load.py crates/ccnode/out/ccnode 10 $(PAUSE) $(SHARE))
+
+# Upgrades three nodes under load from another program, node by node: half a minute. make upgrade OLD=PROGRAM
+upgrade:
+	@$(BUILD) ccnode
+	@python3 tools/upgrade.py crates/ccnode/out/ccnode $(OLD)
+
+# Runs 33 nodes on this machine, takes ten of them away at once and brings them back: two minutes. NODES=65 runs as many.
+many-nodes:
+	@$(BUILD) ccnode
+	@python3 tools/many_nodes.py crates/ccnode/out/ccnode $(NODES)
 
 # Measures three nodes of share 1 and of share 32, and three of etcd and of ZooKeeper in the same run, which have to be there
 # (Debian's etcd-server and zookeeper): about four minutes. It fails nothing.

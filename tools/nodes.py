@@ -103,7 +103,8 @@ class Cluster:
 
     def run_words(self, node):
         peers = ",".join(f"{peer}={self.way(node, peer)}" for peer in self.nodes if peer != node)
-        return ["run", f"node-{node}", "--listen", self.address(node), *(["--peers", peers] if peers else [])]
+        words = ["run", f"node-{node}", "--listen", self.address(node), *answers_of(node)]
+        return words + (["--peers", peers] if peers else [])
 
     def start(self, node, closed=(), blocks=None, output=None, error=None):
         """Starts a node, with these of its standard streams closed, and where its files may have so many blocks alone. What
@@ -169,6 +170,14 @@ class Cluster:
         lines = pathlib.Path(f"/proc/{self.running[node].pid}/status").read_text().splitlines()
         rows = dict(line.split(":", 1) for line in lines)
         return tuple(int(rows[name].split()[0]) for name in ("VmRSS", "VmHWM"))
+
+
+def answers_of(node):
+    """What ANSWERS has a node run with: `asker` or `all`, or `half`, which has the odd ones of a cluster send answers to all."""
+    answers = os.environ.get("ANSWERS", "")
+    if answers == "half":
+        answers = "all" if node % 2 else "asker"
+    return ["--answers", answers] if answers else []
 
 
 def limited(words, closed, blocks=None):

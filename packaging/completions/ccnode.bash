@@ -11,7 +11,7 @@ _ccnode_places() {
 _ccnode_options() {
     case $1 in
         format) echo '--initial --contacts --beta --gamma --share --help' ;;
-        run) echo '--listen --listen-clients --operators --peers --peers-file --status --log --help' ;;
+        run) echo '--listen --listen-clients --operators --answers --peers --peers-file --status --log --help' ;;
         ask) echo '--text --request --timeout --wait --status --json --help' ;;
         status) echo '--json --watch --help' ;;
         load) echo '--clients --seconds --collects --sessions-from --json --help' ;;
@@ -31,7 +31,7 @@ _ccnode() {
     for ((at = 1; at < ${#words[@]} - 1; at++)); do
         case ${words[at]} in
             --initial | --contacts | --beta | --gamma | --share | --listen | --peers | --peers-file) ((at++)) ;;
-            --listen-clients | --operators | --status | --log | --text | --request | --timeout) ((at++)) ;;
+            --listen-clients | --operators | --answers | --status | --log | --text | --request | --timeout) ((at++)) ;;
             --clients | --seconds | --sessions-from) ((at++)) ;;
             -*) ;;
             *) if [[ -z $subcommand ]]; then subcommand=${words[at]}; else ((places++)); fi ;;
@@ -43,6 +43,7 @@ _ccnode() {
         --listen-clients | --status | --text | --request | --timeout) return ;;
         --clients | --seconds | --sessions-from) return ;;
         --operators) mapfile -t COMPREPLY < <(compgen -W 'on off' -- "$word"); return ;;
+        --answers) mapfile -t COMPREPLY < <(compgen -W 'asker all' -- "$word"); return ;;
         --log) mapfile -t COMPREPLY < <(compgen -W 'error warn info debug' -- "$word"); return ;;
         --peers-file) mapfile -t COMPREPLY < <(compgen -f -- "$word"); return ;;
     esac

@@ -24,6 +24,7 @@ complete -c ccnode -n '__fish_seen_subcommand_from format' -l share -x -d 'How m
 complete -c ccnode -n '__fish_seen_subcommand_from run' -l listen -x -d 'Where it listens'
 complete -c ccnode -n '__fish_seen_subcommand_from run' -l listen-clients -x -d 'Where it listens for clients alone'
 complete -c ccnode -n '__fish_seen_subcommand_from run' -l operators -x -a 'on off' -d 'Whether other machines operate it'
+complete -c ccnode -n '__fish_seen_subcommand_from run' -l answers -x -a 'asker all' -d 'Which nodes get the answers to an operation'
 complete -c ccnode -n '__fish_seen_subcommand_from run' -l peers -x -d 'Where the others listen'
 complete -c ccnode -n '__fish_seen_subcommand_from run' -l peers-file -r -d 'A file of peers, one a line'
 complete -c ccnode -n '__fish_seen_subcommand_from run' -l status -x -d 'Where it shows itself over HTTP'

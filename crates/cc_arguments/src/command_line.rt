@@ -58,6 +58,10 @@ What comes to the ADDR of --listen-clients may ask, and nothing else; whoever br
 anything else there is hung up on. With --operators off the node leaves, and retires
 others, for whoever asks on its own machine alone.
 
+An answer to an operation goes to the node that asked, and the others are told that
+they need not wait for it. A program from before that knows no such telling: beside one
+all nodes run with --answers all.
+
 A FILE of peers has a line ID=ADDR for each node. Blank lines and those that begin
 with # say nothing, and the node's own line is passed over: one file serves all.
 
@@ -235,6 +239,11 @@ const RUN: Subcommand = Subcommand {
             "operators",
             "on|off",
             "Whether `leave` and `retire` are taken from other machines [default: on]",
+        ),
+        Word::Option(
+            "answers",
+            "asker|all",
+            "Which nodes get the answers to an operation [default: asker]",
         ),
         Word::Option(
             "peers",

@@ -119,6 +119,7 @@ fn run_words<'a>(words: &ArgMatches<'a>) -> RunWords<'a> {
         listen: required(words, "listen"),
         listen_clients: words.get_str("listen-clients"),
         operators: words.get_str("operators"),
+        answers: words.get_str("answers"),
         peers: words.get_str("peers"),
         peers_file: words.get_str("peers-file"),
         status: words.get_str("status"),

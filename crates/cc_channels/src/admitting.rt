@@ -108,7 +108,7 @@ impl<F: Flushed> Admitting for ConnectionAdmission<'_, F> {
 /// The node that sends what brings such an event.
 pub fn speaker_of(event: &Event) -> Option<NodeId> {
     match event {
-        Event::Deliver { from, .. } => Some(*from),
+        Event::Deliver { from, .. } | Event::Skip { from, .. } => Some(*from),
         Event::Acked { peer, .. } => Some(*peer),
         _ => None,
     }

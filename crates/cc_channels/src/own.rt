@@ -1,11 +1,14 @@
 //! The channel on which what a node sends to itself waits for its worker.
 
+ghost use Rattle.std.specs.Prelude.{◌≤◌};
+
 use crate::flags::Flag;
 use crate::offer::offer;
-use cc_messages::Event;
+use cc_messages::{Event, PostRange};
+use cc_protocol::{Due, Withheld};
 use crossbeam_channel::{Receiver, Sender, bounded};
 use std::alloc::{AllocError, Global};
-use std::sync::Wait;
+use std::sync::{Mutex, Wait};
 
 // How many events wait for the worker of the node's own messages at most.
 const OWN_ROOM: usize = 4096;
@@ -15,6 +18,8 @@ const OWN_ROOM: usize = 4096;
 pub struct OwnChannel {
     to: Sender<Option<Event>>,
     is_muted: Flag,
+    // The numbers of the last posts, which are for others.
+    withheld: Mutex<Withheld>,
 }
 
 impl OwnChannel {
@@ -25,6 +30,18 @@ impl OwnChannel {
         } else {
             let _ = offer(rt, &self.to, Some(event));
         }
+    }
+
+    /// What the node is to hear once it puts a post for itself under this number.
+    pub fn due<R: Wait>(&self, rt: &R, number: u64, is_for: bool) -> Due
+        requires { 1 ≤ number }
+    {
+        self.withheld.lock(rt).put(number, is_for)
+    }
+
+    /// The numbers that were withheld, of which the node is to hear now.
+    pub fn take_withheld<R: Wait>(&self, rt: &R) -> Option<PostRange> {
+        self.withheld.lock(rt).take()
     }
 
     /// Ends the worker, once it has taken what waits.
@@ -48,6 +65,7 @@ pub fn own_channel(alloc: Global) -> Result<(OwnChannel, Receiver<Option<Event>>
         OwnChannel {
             to,
             is_muted: Flag::new(),
+            withheld: Mutex::new(Withheld::new()),
         },
         from,
     ))

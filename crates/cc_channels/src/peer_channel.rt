@@ -1,9 +1,12 @@
 //! The channel on which what is for a peer waits for its writer.
 
+ghost use Rattle.std.specs.Prelude.{◌≤◌};
+
 use crate::flags::Flag;
 use crate::offer::offer;
 use cc_frames::Peer;
-use cc_protocol::Parcel;
+use cc_messages::PostRange;
+use cc_protocol::{Due, Parcel, Withheld};
 use cc_views::NodeId;
 use crossbeam_channel::{Receiver, Sender, bounded};
 use std::alloc::{AllocError, Global};
@@ -24,6 +27,8 @@ pub struct PeerChannel {
     to: Sender<Parcel>,
     // Nothing is put on it.
     is_muted: Flag,
+    // The numbers of the last posts, which are for others.
+    withheld: Mutex<Withheld>,
     // What its writer is told, and what it tells.
     way: Arc<Way>,
     // Something was put on it since the last heartbeat was due.
@@ -99,6 +104,23 @@ impl PeerChannel {
             self.is_used.set();
             let _ = offer(rt, &self.to, parcel);
         }
+    }
+
+    /// What is to be written once a post is put for the peer under this number.
+    pub fn due<R: Wait>(&self, rt: &R, number: u64, is_for: bool) -> Due
+        requires { 1 ≤ number }
+    {
+        self.withheld.lock(rt).put(number, is_for)
+    }
+
+    /// The numbers that were withheld from the peer, which is to be told of them now.
+    pub fn take_withheld<R: Wait>(&self, rt: &R) -> Option<PostRange> {
+        self.withheld.lock(rt).take()
+    }
+
+    /// How many numbers are withheld from the peer.
+    pub fn withheld<R: Wait>(&self, rt: &R) -> u64 {
+        self.withheld.lock(rt).len()
     }
 
     /// A second has passed: where nothing else was put on the channel in it, the peer is told again up to which number it was heard,
@@ -196,6 +218,7 @@ pub(crate) fn channel_to(alloc: Global, peer: &Peer) -> Result<(PeerChannel, Far
         peer: peer.id,
         to,
         is_muted: Flag::new(),
+        withheld: Mutex::new(Withheld::new()),
         way,
         is_used: Flag::new(),
         silence: AtomicU64::new(0),

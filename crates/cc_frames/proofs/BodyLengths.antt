@@ -22,6 +22,7 @@ length-body (frames.Reply session request a) is = omega (arith, length-replied s
 length-body (frames.Refused session request refusal value) is = omega arith
 length-body frames.Leave is = omega arith
 length-body (frames.Retire node) is = omega arith
+length-body (frames.Skip from posts) is = omega arith
 length-body (frames.RetireIfSilent node) is = omega arith
 
 -- and at least its kind
@@ -33,4 +34,5 @@ length-body-positive (frames.Reply session request a) = omega arith
 length-body-positive (frames.Refused session request refusal value) = omega arith
 length-body-positive frames.Leave = omega arith
 length-body-positive (frames.Retire node) = omega arith
+length-body-positive (frames.Skip from posts) = omega arith
 length-body-positive (frames.RetireIfSilent node) = omega arith

@@ -4,13 +4,13 @@ use Rattle.std.specs.Int.{w32, w64, to_be_bytes}
 use Rattle.cc_wire.specs.declared.fault.WireFault.TheVariants.{Short, BadKind}
 use Rattle.cc_messages.specs.declared.answer.Answer.{Answer}
 use Rattle.cc_frames.specs.declared.frame.Frame.{Frame}
-use Rattle.cc_frames.specs.declared.frame.Frame.TheVariants.{Post, Ack, Ask, Reply, Refused, Leave, Retire, RetireIfSilent}
+use Rattle.cc_frames.specs.declared.frame.Frame.TheVariants.{Post, Ack, Ask, Reply, Refused, Leave, Retire, Skip, RetireIfSilent}
 use Rattle.cc_wire.specs.Reading.{◌>>=◌, Reading, ◌⊗◌, via, nothing_at, byte_at, kinded, bytes_at, number_at, number_from, limited, whole}
 use Rattle.cc_frames.specs.Limits.{body_limit}
 use Rattle.cc_wire.specs.Spelling.{Spells, IsId}
 use Rattle.cc_wire.specs.Answers.{answer_spelling, IsAnswer, answer_at}
 use Rattle.cc_wire.specs.Events.{numbered_spelling, IsNumbered, numbered_at, delivery_spelling, IsDelivery, delivery_at, place_spelling, IsPlace}
-use Rattle.cc_wire.specs.Events.{place_at, asked_spelling, IsAsked, asked_at}
+use Rattle.cc_wire.specs.Events.{place_at, asked_spelling, IsAsked, asked_at, skip_spelling, IsSkip, skip_at}
 
 -- the answer to the command at a place
 abbrev pub replied_spelling : ℕ → ℕ → Answer → List ℕ
@@ -43,6 +43,7 @@ body_spelling (Reply session request answer) = 4 ∷ replied_spelling session re
 body_spelling (Refused session request refusal value) = 5 ∷ refused_spelling session request refusal value
 body_spelling Leave = 6 ∷ []
 body_spelling (Retire node) = 7 ∷ to_be_bytes w32 node
+body_spelling (Skip from posts) = 32 ∷ skip_spelling from posts
 body_spelling (RetireIfSilent node) = 36 ∷ to_be_bytes w32 node
 
 abbrev pub frame_spelling : Frame → List ℕ
@@ -56,6 +57,7 @@ IsFrame (Reply session request answer) = IsReplied session request answer
 IsFrame (Refused session request refusal value) = IsRefused session request refusal value
 IsFrame Leave = Unit {0}
 IsFrame (Retire node) = IsId node
+IsFrame (Skip from posts) = IsSkip from posts
 IsFrame (RetireIfSilent node) = IsId node
 
 abbrev pub SpellsFrame : List ℕ → Frame → Type 0
@@ -72,8 +74,9 @@ body_fields kind =
     else (if kind == 5 then via (λ f. Refused f.0.0 f.0.1 f.1.0 f.1.1) refused_at
     else (if kind == 6 then via (λ _. Leave) nothing_at
     else (if kind == 7 then via (λ node. Retire node) (number_from 1)
+    else (if kind == 32 then via (λ f. Skip f.0 f.1) skip_at
     else (if kind == 36 then via (λ node. RetireIfSilent node) (number_from 1)
-    else (λ bytes. Err (BadKind kind)))))))))
+    else (λ bytes. Err (BadKind kind))))))))))
 
 unfoldable pub body_at : Reading Frame
 body_at = kinded body_fields

@@ -11,11 +11,11 @@ ghost use Rattle.cc_frames.specs.Frames.{replied_spelling, IsReplied, refused_sp
 ghost use Rattle.cc_frames.specs.Frames.{SpellsFrame, body_at, body_fields, replied_at, refused_at, body_length_at, enclosed_at, frame_at};
 
 use byteorder::{BigEndian, ByteOrder};
-use cc_messages::{Answer, Command, Message};
+use cc_messages::{Answer, Command, Message, PostRange};
 use cc_views::{NoMemory, NodeId};
 use cc_wire::{
     Reader, WireFault, put_answer, put_asked, put_delivery, put_id, put_numbered, put_place,
-    put_u8, put_u32, put_u64, settled,
+    put_skip, put_u8, put_u32, put_u64, settled,
 };
 use std::alloc::{AllocError, Global};
 
@@ -58,7 +58,12 @@ pub enum Frame {
     Retire {
         node: NodeId,
     },
-    /// The same, unless the node was heard of so recently that it can't be dead.
+    /// The posts of a node under these numbers are for others than the one that this goes to.
+    Skip {
+        from: NodeId,
+        posts: PostRange,
+    },
+    /// As `Retire`, unless the node was heard of so recently that it can't be dead.
     RetireIfSilent {
         node: NodeId,
     },
@@ -147,6 +152,10 @@ fn read_body_fields(alloc: Global, reader: &mut Reader<'_>, kind: u8) -> Result<
         7 => {
             let node = reader.id(1)?;
             Ok(Frame::Retire { node })
+        }
+        32 => {
+            let (from, posts) = reader.skip()?;
+            Ok(Frame::Skip { from, posts })
         }
         36 => {
             let node = reader.id(1)?;
@@ -316,6 +325,10 @@ fn put_body(out: &mut Vec<u8>, frame: &Frame) -> Result<(), AllocError>
         Frame::Retire { node } => {
             put_u8(out, 7)?;
             put_id(out, *node)
+        }
+        Frame::Skip { from, posts } => {
+            put_u8(out, 32)?;
+            put_skip(out, *from, *posts)
         }
         Frame::RetireIfSilent { node } => {
             put_u8(out, 36)?;

@@ -156,6 +156,7 @@ module _ (all : List ℕ) (c : Core) (k : KnowsFixed all c) where
       (λ a. first_of_round all c.me a (handled c (event.Ask s r command)).ops)
   quiet_post (event.Lapse q) h = tt
   quiet_post event.Snapshot h = k.changes
+  quiet_post (event.Skip from posts) h = tt
   quiet_post _ h = absurd h
 
   message_known : (from n : ℕ) (m : Message) → IsOfRound all m → (churn_told c from n m).changes ≡ fixed_changes all

@@ -6,6 +6,7 @@
 --     contains-add_all, .._len           which rows there are, and how many
 --     add_all-add, add_all-append        the order in which rows are added is no matter;  rows for two lists
 --     reaches_.., len_..                 what one row more keeps, and how many rows there are at most
+--     all_known, hear_twice              rows that are there are not added;  of two numbers that are heard the second stays
 use Rattle.std.proofs.Common.{◌≡◌, ℕ, ◌+◌, ◌-◌, ◌<◌, ◌≤◌, Bool, true, false, cond, not, ◌||◌, ◌&&◌, nat_eq, List, [], ◌∷◌, ◌++◌, refl, sym, ap, subst}
 use Rattle.std.proofs.Common.{◌∙◌, inl, inr, arith}
 use Rattle.std.specs.Prelude.{Option, Some, None, IfSome, is_some, min, nat_lt, ⊤}
@@ -355,3 +356,54 @@ len_add_absent posts peer (Some l) ls = omega arith
 
 pub len_add : (posts peer : ℕ) (ls : Links) → table.len (add posts peer ls) ≤ table.len ls + 1
 len_add posts peer ls = len_add_absent posts peer (table.get ls peer) ls
+
+-- rows that are there are not added
+add_known : (posts p : ℕ) (o : Option Link) (ls : Links) → is_some o ≡ true → add_absent posts p o ls ≡ ls
+add_known posts p None ls there = cc
+add_known posts p (Some l) ls there = refl
+
+pub all_known : (posts : ℕ) (ps : List ℕ) (ls : Links) → AllByRecursion (λ p. table.contains_key ls p ≡ true) ps → add_all posts ps ls ≡ ls
+all_known posts [] ls there = refl
+all_known posts (p ∷ ps) ls there = ap (add posts p) (all_known posts ps ls there.1) ∙ add_known posts p (table.get ls p) ls there.0
+
+heard_row : ℕ → Option Link → Option Link
+heard_row n None = None
+heard_row n (Some l) = Some (record l { heard = n })
+
+get-heard : (from n : ℕ) (o : Option Link) (ls : Links) (q : ℕ) → table.get ls from ≡ o
+    → table.get (with_row from (λ l. record l { heard = n }) o ls) q ≡ cond (nat_eq q from) (heard_row n (table.get ls q)) (table.get ls q)
+unfolding heard_row
+get-heard from n None ls q e =
+    elim (eqb_tells q from) as (λ _. table.get ls q ≡ cond (nat_eq q from) (heard_row n (table.get ls q)) (table.get ls q)) [
+      | inl t ↦ let here : table.get ls q ≡ None = ap (table.get ls) t.1 ∙ e in rw (t.0, here) refl
+      | inr t ↦ rw t.0 refl
+    ]
+get-heard from n (Some l) ls q e =
+    let m = table.insert ls from (record l { heard = n }) in
+    elim (eqb_tells q from) as (λ _. table.get m q ≡ cond (nat_eq q from) (heard_row n (table.get ls q)) (table.get ls q)) [
+      | inl t ↦ get-insert_key ls from (record l { heard = n }) q ∙ rw t.0 (ap (heard_row n) (sym (ap (table.get ls) t.1 ∙ e)))
+      | inr t ↦ get-insert_key ls from (record l { heard = n }) q ∙ rw t.0 refl
+    ]
+
+get-hear : (from n : ℕ) (ls : Links) (q : ℕ) → table.get (hear from n ls) q ≡ cond (nat_eq q from) (heard_row n (table.get ls q)) (table.get ls q)
+get-hear from n ls q = get-heard from n (table.get ls from) ls q refl
+
+only_last : (b : Bool) (p q k l : ℕ) (o : Option Link) → (let once = cond b (added p o) o in let heard = cond b (heard_row k once) once in
+    let again = cond b (added q heard) heard in cond b (heard_row l again) again ≡ cond b (heard_row l once) once)
+unfolding heard_row
+only_last true p q k l o = refl
+only_last false p q k l o = refl
+
+-- of two numbers that are heard one after the other the second stays
+pub hear_twice : (p q from k l : ℕ) (ls : Links) → hear from l (add q from (hear from k (add p from ls))) ≡ hear from l (add p from ls)
+hear_twice p q from k l ls =
+    let once = add p from ls in
+    let heard = hear from k once in
+    let again = add q from heard in
+    table.same_map nat_cmp_total nat_cmp-IsAntisymmetric _ _ (λ r.
+    let b = nat_eq r from in
+    let first = get-add p from ls r in
+    let second = get-hear from k once r ∙ ap (λ o. cond b (heard_row k o) o) first in
+    let third = get-add q from heard r ∙ ap (λ o. cond b (added q o) o) second in
+    get-hear from l again r ∙ ap (λ o. cond b (heard_row l o) o) third ∙ only_last b p q k l (table.get ls r)
+    ∙ sym (get-hear from l once r ∙ ap (λ o. cond b (heard_row l o) o) first))

@@ -12,7 +12,7 @@ pub use fault::LookFault;
 pub use head::{body_of, reason_of};
 pub use looking::{Look, look_at, reason_at};
 pub use status::{
-    CountPart, DiskPart, PeerPart, PostPart, QuorumPart, RoundPart, RowPart, RowText, Status,
-    SyncPart,
+    CountPart, DiskPart, PeerPart, PostPart, QuorumPart, RoundPart, RowPart, RowText, SkipPart,
+    Status, SyncPart,
 };
 pub use table::Table;

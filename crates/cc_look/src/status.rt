@@ -110,9 +110,19 @@ pub struct CountPart<'a> {
     pub commits: u64,
     pub events: u64,
     pub connections: u64,
+    /// None where the node's program knows no skips.
+    pub skips: Option<SkipPart>,
     /// How many asks were accepted, by their command, and how many events were refused, by the refusal's name.
     pub asks: &'a Map<String, Value>,
     pub refusals: &'a Map<String, Value>,
+}
+
+/// How many posts were withheld from peers that they aren't for, and how many skips told of such posts.
+#[derive(Clone, Copy)]
+pub struct SkipPart {
+    pub withheld: u64,
+    pub sent: u64,
+    pub heard: u64,
 }
 
 /// How long syncs took, in microseconds.
@@ -332,8 +342,21 @@ impl<'a> CountPart<'a> {
             commits,
             events,
             connections,
+            skips: SkipPart::in_counts(value),
             asks: value.get("asks")?.as_object()?,
             refusals: value.get("refusals")?.as_object()?,
+        })
+    }
+}
+
+impl SkipPart {
+    fn in_counts(counts: &Value) -> Option<Self> {
+        let names = ["withheld", "skips_sent", "skips_heard"];
+        let [withheld, sent, heard] = numbers::<3>(counts, &names)?;
+        Some(SkipPart {
+            withheld,
+            sent,
+            heard,
         })
     }
 }

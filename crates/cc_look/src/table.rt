@@ -1,7 +1,7 @@
 //! A node's status as a table.
 
 use crate::status::{
-    CountPart, PeerPart, QuorumPart, RoundPart, RowPart, RowText, Status, number_of,
+    CountPart, PeerPart, QuorumPart, RoundPart, RowPart, RowText, SkipPart, Status, number_of,
 };
 use cc_texts::{Harmless, Quoted};
 use serde_json::{Map, Value};
@@ -106,6 +106,19 @@ fn print_counts<W: fmt::Write>(f: &mut fmt::Formatter<W>, counts: &CountPart<'_>
         f,
         "counts    {events} events in {commits} batches, {connections} connections"
     )?;
+    if let Some(
+        SkipPart {
+            withheld,
+            sent,
+            heard,
+        },
+    ) = counts.skips
+    {
+        writeln!(
+            f,
+            "skips     {withheld} posts withheld, {sent} skips sent, {heard} heard"
+        )?;
+    }
     write!(f, "asked     ")?;
     print_named(f, counts.asks)?;
     write!(f, "refused   ")?;

@@ -1,3 +1,4 @@
 pub mod Limits
 pub mod Messages
+pub mod Ranges
 pub mod Refusals

@@ -4,6 +4,7 @@ ghost use Rattle.std.specs.Prelude.{◌≡◌, IfOk};
 
 use crate::command::Command;
 use crate::message::Message;
+use crate::post_range::PostRange;
 use cc_views::{NoMemory, NodeId};
 use std::alloc::Global;
 
@@ -41,6 +42,11 @@ pub enum Event {
     },
     /// The node posts what it knows, for nodes that missed what lapsed.
     Snapshot,
+    /// The posts of a node under these numbers are for others, so it sends none of them.
+    Skip {
+        from: NodeId,
+        posts: PostRange,
+    },
 }
 
 impl Event {
@@ -76,6 +82,10 @@ impl Event {
             Event::Retire { node } => Ok(Event::Retire { node: *node }),
             Event::Lapse { node } => Ok(Event::Lapse { node: *node }),
             Event::Snapshot => Ok(Event::Snapshot),
+            Event::Skip { from, posts } => Ok(Event::Skip {
+                from: *from,
+                posts: *posts,
+            }),
         }
     }
 }

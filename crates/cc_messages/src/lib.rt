@@ -8,6 +8,7 @@ mod event;
 mod message;
 mod number_list;
 mod output;
+mod post_range;
 mod refusal;
 
 pub use answer::Answer;
@@ -16,4 +17,5 @@ pub use event::Event;
 pub use message::Message;
 pub use number_list::NumberList;
 pub use output::Output;
+pub use post_range::PostRange;
 pub use refusal::Refusal;

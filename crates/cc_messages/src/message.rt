@@ -1,7 +1,7 @@
 //! Messages between nodes.
 
 ghost use Rattle.std.specs.Prelude.{◌≡◌, IfOk};
-ghost use Rattle.cc_messages.specs.Messages.{is_snapshot};
+ghost use Rattle.cc_messages.specs.Messages.{is_snapshot, is_for};
 ghost use Rattle.cc_messages.specs.declared.message.Message.TheVariants as variants;
 
 use cc_changes::Changes;
@@ -114,6 +114,24 @@ impl Message {
         ensures { result ≡ is_snapshot self.now }
     {
         matches!(self, Message::Snapshot { .. })
+    }
+
+    /// Whether the peer is one of those that it is for: an answer is for the node that asked, each other message for all.
+    pub fn is_for(&self, peer: NodeId) -> bool
+        ensures { result ≡ is_for self.now peer }
+    {
+        match self {
+            Message::QueryReply { node, .. } | Message::StoreAck { node, .. } => *node == peer,
+            Message::Enter { .. }
+            | Message::EnterEcho { .. }
+            | Message::Join { .. }
+            | Message::JoinEcho { .. }
+            | Message::Leave { .. }
+            | Message::LeaveEcho { .. }
+            | Message::Query { .. }
+            | Message::Store { .. }
+            | Message::Snapshot { .. } => true,
+        }
     }
 }
 

@@ -19,6 +19,7 @@ use Rattle.cc_ops.specs.Refusals.{passes}
 use Rattle.cc_views.specs.Rows.{ViewMap}
 use Rattle.cc_changes.specs.declared.fraction.Fraction.{Fraction}
 use Rattle.cc_messages.specs.Messages.{is_snapshot}
+use Rattle.cc_messages.specs.Ranges.{Range}
 use Rattle.cc_messages.specs.declared.event.Event.TheVariants as event
 use Rattle.cc_messages.specs.declared.message.Message.{Message}
 use Rattle.cc_messages.specs.declared.message.Message.TheVariants as message
@@ -35,8 +36,8 @@ use Rattle.cc_messages.specs.declared.command.Command.{Command}
 use Rattle.cc_node.specs.Core.{Core, asked_of, churned, tells, told_if, churn_told, join_told, asks_anew, anew_if, ops_anew, question_if}
 use Rattle.cc_node.specs.Core.{post_of_snapshot, handled, next, post, quorum}
 use Rattle.cc_node.specs.Refusals.{any_overruns, spent, decides, decides_within, left, has_gone, not_entered, already_entered, not_joined, old, gap}
-use Rattle.cc_node.specs.Refusals.{nothing_to_ack, too_many_sessions, repeat, stale, skip}
-use Rattle.cc_node.proofs.LawfulLaws.{hears_now, request_now}
+use Rattle.cc_node.specs.Refusals.{gap_before, nothing_to_ack, too_many_sessions, repeat, stale, skip}
+use Rattle.cc_node.proofs.LawfulLaws.{hears_now, hears_skip, request_now}
 use Rattle.cc_node.proofs.ToldLaws.{snapshot_tag, snapshot_number, snapshot_echoes, anew_number, anew_one, told_one, not_told, not_anew}
 
 -- ---- reasons, one list after the other
@@ -57,6 +58,10 @@ of_retire q c = left c ∷ has_gone c q ∷ not_entered c ∷ []
 -- by which the number of a delivery does, and that of a request
 abbrev pub of_number : Core → ℕ → ℕ → Message → List (Option Refusal)
 of_number c from n m = old c from n ∷ gap c from n m ∷ []
+
+-- by which the numbers that are skipped do
+abbrev pub of_range : Core → ℕ → Range → List (Option Refusal)
+of_range c from posts = old c from posts.last ∷ gap_before c from posts.first ∷ []
 
 abbrev pub of_request : Core → ℕ → ℕ → List (Option Refusal)
 of_request c s r = too_many_sessions c s ∷ repeat c s r ∷ stale c s r ∷ skip c s r ∷ []
@@ -245,6 +250,21 @@ spent_snapshot c = ap (λ b. then_some b refusal.Spent) (posts_alone c (c.posts 
 pub spent_lapse : (c : Core) (q : ℕ) → spent c (event.Lapse q) ≡ None
 unfolding next
 spent_lapse c q = ap (λ b. then_some b refusal.Spent) (posts_alone c (c.posts + 0) ∙ stays_at c.posts (c.posts + 0) (omega arith))
+
+pub spent_skip : (c : Core) (from : ℕ) (posts : Range) → spent c (event.Skip from posts) ≡ then_some (nat_lt counter_limit posts.last) refusal.Spent
+unfolding next
+spent_skip c from posts =
+    ap (λ b. then_some b refusal.Spent)
+    (any_of _ _ _ _ _ false false false false _ (passes_none c.ops.number) (stays c.ops.tag) (stays_at c.posts (c.posts + 0) (omega arith))
+    (stays c.churn.echoes) (ap (nat_lt counter_limit) (hears_skip c from posts)))
+
+pub skip_is_spent : (c : Core) (from : ℕ) (posts : Range) → counter_limit < posts.last → spent c (event.Skip from posts) ≡ Some refusal.Spent
+skip_is_spent c from posts over =
+    spent_skip c from posts ∙ ap (λ b. then_some b refusal.Spent) (lt-ltb counter_limit posts.last over)
+
+pub skip_passes : (c : Core) (from : ℕ) (posts : Range) → posts.last ≤ counter_limit → spent c (event.Skip from posts) ≡ None
+skip_passes c from posts within =
+    spent_skip c from posts ∙ ap (λ b. then_some b refusal.Spent) (le-ltb counter_limit posts.last within)
 
 -- whether these operations have a number or a tag past its limit
 abbrev pub counts : Core → ops.Ops → Bool

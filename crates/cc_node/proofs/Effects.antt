@@ -18,7 +18,8 @@ use Rattle.cc_changes.specs.ChangeLaws.{fits_among}
 use Rattle.cc_changes.specs.declared.fraction.Fraction.{Fraction}
 use Rattle.cc_churn.specs.Churn as churn
 use Rattle.cc_churn.proofs.Fits.{before_echo}
-use Rattle.cc_links.specs.Links.{Links, add_all, ack, lapse}
+use Rattle.cc_messages.specs.Ranges.{Range}
+use Rattle.cc_links.specs.Links.{Links, add as add_peer, add_all, hear, ack, lapse}
 use Rattle.cc_links.specs.LinkLaws.{len_add_all}
 use Rattle.cc_ops.specs.Ops as ops
 use Rattle.cc_ops.specs.Commands.{finds_no_room}
@@ -42,7 +43,7 @@ use Rattle.cc_node.proofs.Deciding.{posts_if_idle}
 use Rattle.cc_node.proofs.KeptLaws.{posts_forget}
 use Rattle.cc_node.proofs.KnownLaws.{none_waits}
 use Rattle.cc_node.proofs.LawfulLaws.{next_core, quorum_fits, step_lawful}
-use Rattle.cc_node.proofs.RefusalLaws.{takes_delivery, takes_ask, takes_retire, takes_any}
+use Rattle.cc_node.proofs.RefusalLaws.{takes_delivery, takes_ask, takes_retire, takes_skip, takes_any}
 use Rattle.cc_node.proofs.ToldLaws.{told_more, told_one, anew_view, anew_number, anew_more, anew_one}
 
 -- ---- what a lawful core has room for
@@ -71,6 +72,12 @@ next_ack c s peer n ls is made = (λ i. record c { links = made i; posts = sym (
 pub next_lapse : (c s : Core) (q : ℕ) (ls : Links) → c ≡ s → ls ≡ lapse c.posts q c.links → record c { links = ls } ≡ next s (event.Lapse q)
 unfolding next
 next_lapse c s q ls is made = (λ i. record c { links = made i; posts = sym (add-zero c.posts) i }) ∙ ap (λ (d : Core). next d (event.Lapse q)) is
+
+pub next_skip : {c s : Core} {ls : Links} (from : ℕ) (posts : Range) → c ≡ s → ls ≡ hear from posts.last (add_peer c.posts from c.links)
+    → record c { links = ls } ≡ next s (event.Skip from posts)
+unfolding next
+next_skip {c} from posts is linked =
+    (λ i. record c { links = linked i; posts = sym (add-zero c.posts) i }) ∙ ap (λ (d : Core). next d (event.Skip from posts)) is
 
 pub next_snapshot : {c s : Core} → c ≡ s → record c { posts = c.posts + 1 } ≡ next s event.Snapshot
 unfolding next
@@ -170,6 +177,10 @@ delivery_room {c} {s} {from} {m} n is d h =
       tag = λ e. rw (e, ← is) (omega (arith, after.counts.tag, anew_more a again o));
       anew = λ e asks. rw (e, ← is) (omega (arith, after.counts.tag, anew_one a again o asks));
     }
+
+pub skip_room : {c s : Core} (from : ℕ) (posts : Range) → c ≡ s → decides s (event.Skip from posts) ≡ None → table.len (add_peer c.posts from c.links) ≤ 256
+skip_room {c} from posts is d =
+    ltb-false known_limit (table.len (add_all c.posts (from ∷ []) c.links)) (takes_skip c from posts (rw (← is) at d)).nodes
 
 pub record AskRoom (c d : Core) (s r : ℕ) (k : Command) : Type 0 where
   pub free : busy line_limit s c.ops ≡ None

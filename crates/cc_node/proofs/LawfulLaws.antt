@@ -34,7 +34,8 @@ use Rattle.cc_ops.specs.OwnLaws.{message_last, message_answers, ask_last, ask_un
 use Rattle.cc_ops.specs.Rounds.{first_round, line_behind}
 use Rattle.cc_ops.specs.WaitingLaws.{written_fits}
 use Rattle.cc_ops.specs.declared.pending.Asked.{Asked}
-use Rattle.cc_links.specs.Links.{Link, Links, new_link, with_row, add_absent, add_all, hear, ack, lapse, heard_from, LinksWithin}
+use Rattle.cc_messages.specs.Ranges.{Range}
+use Rattle.cc_links.specs.Links.{Link, Links, new_link, with_row, add, add_absent, add_all, hear, ack, lapse, heard_from, LinksWithin}
 use Rattle.cc_links.specs.LinkLaws.{LinksGoOn, go_same, go_then, add_all_goes, hear_goes, ack_goes, lapse_goes, go_within, lowest_within}
 use Rattle.cc_links.specs.LinkLaws.{lowest_grows, links_more_posts, add_all_links, hear_links, ack_links, lapse_links, contains-add_all, hear_len}
 use Rattle.cc_links.specs.LinkLaws.{ack_len, lapse_len}
@@ -50,7 +51,7 @@ use Rattle.cc_node.proofs.KnownLaws.{leave_changes, KeepsChurn, members_fit, mes
 use Rattle.cc_node.proofs.KnownLaws.{all_last, none_waits, none_left}
 use Rattle.cc_node.proofs.KeptLaws.{step_posts, posted, round_answers, last_answers}
 use Rattle.cc_node.proofs.Lists.{inserted_here, inserted_beside}
-use Rattle.cc_node.proofs.RefusalLaws.{Fits, takes_delivery, takes_ack, takes_ask, takes_retire, takes_lapse, takes_any, stays_within}
+use Rattle.cc_node.proofs.RefusalLaws.{Fits, takes_delivery, takes_ack, takes_ask, takes_retire, takes_lapse, takes_skip, takes_any, stays_within}
 use Rattle.cc_node.proofs.RefusalLaws.{passes_within, none_overruns}
 use Rattle.cc_node.proofs.ToldLaws.{told_churn, left_told, one_echo, echoes_told, anew_last, anew_unanswered, anew_tag, anew_ops, snapshot_tag}
 use Rattle.cc_node.proofs.ToldLaws.{snapshot_echoes, tells_snapshot, anew_snapshot}
@@ -159,12 +160,17 @@ heard_now_of from n ls (Some l) e h =
     ap (λ o. heard_at (table.get (with_row from (λ l. record l { heard = n }) o ls) from)) e
     ∙ ap heard_at (inserted_here ls from (record l { heard = n }) from (same_number from))
 
-pub hears_now : (c : Core) (from n : ℕ) (m : Message) → heard_from from (hear from n (add_all c.posts (from ∷ ids_of m) c.links)) ≡ n
-hears_now c from n m =
-    let ls = add_all c.posts (from ∷ ids_of m) c.links in
-    let there : is_some (table.get ls from) ≡ true =
-    contains-add_all c.posts (from ∷ ids_of m) c.links from ∙ or_left _ _ (or_left _ _ (same_number from)) in
+pub hears_on : (posts from n : ℕ) (ids : List ℕ) (links : Links) → heard_from from (hear from n (add_all posts (from ∷ ids) links)) ≡ n
+hears_on posts from n ids links =
+    let ls = add_all posts (from ∷ ids) links in
+    let there : is_some (table.get ls from) ≡ true = contains-add_all posts (from ∷ ids) links from ∙ or_left _ _ (or_left _ _ (same_number from)) in
     heard_now_of from n ls (table.get ls from) refl there
+
+pub hears_now : (c : Core) (from n : ℕ) (m : Message) → heard_from from (hear from n (add_all c.posts (from ∷ ids_of m) c.links)) ≡ n
+hears_now c from n m = hears_on c.posts from n (ids_of m) c.links
+
+pub hears_skip : (c : Core) (from : ℕ) (posts : Range) → heard_from from (hear from posts.last (add c.posts from c.links)) ≡ posts.last
+hears_skip c from posts = hears_on c.posts from posts.last [] c.links
 
 -- what is heard now stays within the limit
 heard_fits : (c : Core) (from n : ℕ) (m : Message) → decides c (event.Deliver from n m) ≡ None → n ≤ counter_limit
@@ -176,6 +182,13 @@ heard_fits c from n m d =
     let now : heard_from from (hear from n ls) ≡ n = hears_now c from n m in
     let none = none_overruns c (next c e) e takes.fits.counts in
     ltb-false counter_limit n (subst (λ k. nat_lt counter_limit k ≡ false) now none.row)
+
+skip_fits : (c : Core) (from : ℕ) (posts : Range) → decides c (event.Skip from posts) ≡ None → posts.last ≤ counter_limit
+unfolding next
+skip_fits c from posts d =
+    let e = event.Skip from posts in
+    let none = none_overruns c (next c e) e (takes_skip c from posts d).fits.counts in
+    ltb-false counter_limit posts.last (subst (λ k. nat_lt counter_limit k ≡ false) (hears_skip c from posts) none.row)
 
 pub quorum_fits : (c : Core) → IsLawfulCore c → quorum c ≤ known_limit
 quorum_fits c h = need_within c.beta _ known_limit h.beta (members_fit c.links c.churn.changes h.changes h.link_count) (omega arith)
@@ -196,6 +209,15 @@ module _ (c : Core) (from n : ℕ) (m : Message) (d : decides c (event.Deliver f
   all_linked q h =
       go_within c.posts (linked c from m) (hear from n (linked c from m)) heard_on q
       (contains-add_all c.posts (from ∷ ids_of m) c.links q ∙ or_left _ _ h)
+
+-- with a link to who skips, on which its last number is heard
+skip_goes : (c : Core) (from : ℕ) (posts : Range) → decides c (event.Skip from posts) ≡ None
+    → LinksGoOn c.posts c.links (hear from posts.last (add c.posts from c.links))
+skip_goes c from posts d =
+    let above : heard_from from c.links < posts.last = leb-false _ _ (takes_skip c from posts d).new in
+    let added = add_all c.posts (from ∷ []) c.links in
+    go_then c.posts c.links added (hear from posts.last added) (add_all_goes c.posts (from ∷ []) c.links)
+    (hear_goes c.posts from posts.last added (omega (arith, above, add_all_heard c.posts (from ∷ []) c.links from)))
 
 -- ---- the core after each event
 
@@ -335,6 +357,16 @@ next_core c (event.Lapse q) d h =
 next_core c event.Snapshot d h =
     linked_core c c.churn.changes 1 c.links h (λ q k. k) (changes_more c c.links (λ q k. k) h) h.link_count h.links
     (counts_next c event.Snapshot (takes_any c event.Snapshot d) h.counts)
+next_core c (event.Skip from posts) d h =
+    let takes = takes_skip c from posts d in
+    let added = add_all c.posts (from ∷ []) c.links in
+    let ls = hear from posts.last added in
+    let more = go_within c.posts c.links ls (skip_goes c from posts d) in
+    let most : table.len added ≤ known_limit = ltb-false _ _ takes.nodes in
+    let few : table.len ls ≤ known_limit = omega (arith, hear_len from posts.last added, most) in
+    linked_core c c.churn.changes 0 ls h more (changes_more c ls more h) few
+    (hear_links c.posts from posts.last added (skip_fits c from posts d) (add_all_links c.posts (from ∷ []) c.links h.links))
+    (counts_next c (event.Skip from posts) takes.fits h.counts)
 
 -- ---- the node
 
@@ -344,6 +376,7 @@ links_go_on c (event.Deliver from n m) d = linked_goes c from n m d
 links_go_on c (event.Acked peer n) d = ack_goes c.posts peer n c.links (takes_ack c peer n d).awaited
 links_go_on c (event.Retire q) d = add_all_goes c.posts (q ∷ []) c.links
 links_go_on c (event.Lapse q) d = lapse_goes c.posts q c.links (or_parts _ _ (takes_lapse c q d).awaited).1
+links_go_on c (event.Skip from posts) d = skip_goes c from posts d
 links_go_on c _ d = go_same c.posts c.links
 
 pub left_grows : (c : Core) (e : Event) → IsWithin c.churn.changes.left (next c e).churn.changes.left

@@ -17,6 +17,7 @@ pub mod Openings
 pub mod OrderLaws
 pub mod RefusalLaws
 pub mod ShareLaws
+pub mod SkipLaws
 pub mod StandingLaws
 pub mod ToldLaws
 mod Restoring

@@ -47,9 +47,9 @@ use Rattle.cc_node.specs.Node.{Node, step, line, HasOutput, IsLawful}
 use Rattle.cc_node.specs.Lines.{Follows}
 use Rattle.cc_node.specs.Lawful.{IsLastOf, IsLawfulCore, IsLawfulNode}
 use Rattle.cc_node.proofs.KnownLaws.{all_last, none_left}
-use Rattle.cc_node.proofs.LawfulLaws.{heard_at, links_go_on, hears_now, request_now, step_lawful}
+use Rattle.cc_node.proofs.LawfulLaws.{heard_at, links_go_on, hears_now, hears_skip, request_now, step_lawful}
 use Rattle.cc_node.proofs.Lists.{both_all, all_map, all_mapped, if_at, inserted_beside}
-use Rattle.cc_node.proofs.RefusalLaws.{takes_delivery, takes_ask}
+use Rattle.cc_node.proofs.RefusalLaws.{takes_delivery, takes_skip, takes_ask}
 use Rattle.cc_node.proofs.ToldLaws.{anew_unanswered}
 
 -- ---- lists
@@ -190,12 +190,18 @@ ack_follows c (event.Deliver from n m) (output.Ack to number) d past =
     let above : heard_from from c.links < n = leb-false _ _ (takes_delivery c from n m d).new in
     (λ same. let old : number ≤ heard_from from c.links = subst (λ (q : ℕ). number ≤ heard_from q c.links) same past in omega arith, tt)
 ack_follows c (event.Deliver from n m) x d past = (tt, tt)
+ack_follows c (event.Skip from posts) (output.Ack to number) d past =
+    let above : heard_from from c.links < posts.last = leb-false _ _ (takes_skip c from posts d).new in
+    (λ same. let old : number ≤ heard_from from c.links = subst (λ (q : ℕ). number ≤ heard_from q c.links) same past in omega arith, tt)
+ack_follows c (event.Skip from posts) x d past = (tt, tt)
 ack_follows c _ x d past = tt
 
 ack_past : (c : Core) (e : Event) → AllByRecursion (IsPast (next c e)) (send_ack (core.ack e))
 unfolding next
 ack_past c (event.Deliver from n m) =
     (subst (λ k. k ≤ heard_from from (next c (event.Deliver from n m)).links) (hears_now c from n m) (omega arith), tt)
+ack_past c (event.Skip from posts) =
+    (subst (λ k. k ≤ heard_from from (next c (event.Skip from posts)).links) (hears_skip c from posts) (omega arith), tt)
 ack_past c _ = tt
 
 -- ---- replies

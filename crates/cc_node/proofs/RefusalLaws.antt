@@ -1,5 +1,5 @@
 -- What is known of an event that isn't refused.
---     takes_delivery, takes_ack, takes_ask, takes_retire, takes_lapse     what each check that passed says
+--     takes_delivery, takes_ack, takes_ask, takes_retire, takes_lapse, takes_skip     what each check that passed says
 --     takes_any                                no post is too many, and no counter goes past its limit
 --     stays_within, none_overruns              a counter that isn't spent stays within its limit
 use Rattle.std.proofs.Common.{◌≡◌, ℕ, ◌+◌, ◌-◌, ◌≤◌, Bool, true, false, not, ◌&&◌, ◌||◌, nat_lt, nat_le, List, [], ◌∷◌, length, refl, inl, inr, arith}
@@ -13,6 +13,7 @@ use Rattle.cc_views.specs.Limits.{counter_limit, known_limit, overruns}
 use Rattle.cc_ops.specs.Refusals.{passes}
 use Rattle.cc_messages.specs.declared.command.Command.{Command}
 use Rattle.cc_messages.specs.Messages.{is_snapshot}
+use Rattle.cc_messages.specs.Ranges.{Range}
 use Rattle.cc_messages.specs.declared.event.Event.{Event}
 use Rattle.cc_messages.specs.declared.event.Event.TheVariants as event
 use Rattle.cc_messages.specs.declared.message.Message.{Message}
@@ -26,7 +27,7 @@ use Rattle.cc_churn.specs.Churn.{has_left}
 use Rattle.cc_links.specs.Links.{heard_from, awaits_ack, awaits_any}
 use Rattle.cc_sessions.specs.Sessions as requests
 use Rattle.cc_sessions.specs.Sessions.{last_request, is_stale, is_skip}
-use Rattle.cc_node.specs.Core.{Core, next, post, lowest, ids_of, with_links}
+use Rattle.cc_node.specs.Core.{Core, next, post, lowest, ids_of, with_links, skips}
 use Rattle.cc_outbox.specs.Outbox.{post_limit}
 use Rattle.cc_node.specs.Refusals.{busy, outbox_full, spent, any_overruns, row_overruns, reasons, decides, decides_within}
 
@@ -71,6 +72,12 @@ pub record TakesRetire (c : Core) (q : ℕ) : Type 0 where
 pub record TakesLapse (c : Core) (q : ℕ) : Type 0 where
   pub awaited : (has_left q c.churn || not (option_map_or (awaits_any c.posts) (table.get c.links q) false)) ≡ false
   pub fits : Fits c (event.Lapse q)
+
+pub record TakesSkip (c : Core) (from : ℕ) (posts : Range) : Type 0 where
+  pub new : nat_le posts.last (heard_from from c.links) ≡ false
+  pub next : skips c from posts.first ≡ false
+  pub nodes : nat_lt known_limit (table.len (with_links (from ∷ []) c).links) ≡ false
+  pub fits : Fits c (event.Skip from posts)
 
 -- where neither a full outbox nor a spent counter is a reason
 fits_last : (c : Core) (e : Event) → AllByRecursion (λ r. r ≡ None) (outbox_full c e ∷ spent c e ∷ []) → Fits c e
@@ -127,6 +134,17 @@ takes_lapse c q h =
     let all = (all_none (reasons line_limit c (event.Lapse q)) h).1.1.1 in
     record { awaited = fails refusal.NothingToAck _ all.0; fits = record { posts = refl; counts = fails refusal.Spent _ all.1.0 } }
 
+pub takes_skip : (c : Core) (from : ℕ) (posts : Range) → decides c (event.Skip from posts) ≡ None → TakesSkip c from posts
+unfolding decides decides_within
+takes_skip c from posts h =
+    let all = (all_none (reasons line_limit c (event.Skip from posts)) h).1.1 in
+    record {
+      new = fails (refusal.Old (heard_from from c.links)) _ all.0;
+      next = fails (refusal.Gap (heard_from from c.links)) _ all.1.0;
+      nodes = fails refusal.TooManyNodes _ all.1.1.0;
+      fits = record { posts = refl; counts = fails refusal.Spent _ all.1.1.1.0 };
+    }
+
 pub takes_any : (c : Core) (e : Event) → decides c e ≡ None → Fits c e
 unfolding decides decides_within
 takes_any c event.Enter h = fits_last c event.Enter (all_none (reasons line_limit c event.Enter) h).1.1
@@ -137,6 +155,7 @@ takes_any c (event.Ask s r command) h = (takes_ask c s r command h).fits
 takes_any c (event.Retire q) h = (takes_retire c q h).fits
 takes_any c (event.Lapse q) h = (takes_lapse c q h).fits
 takes_any c event.Snapshot h = fits_last c event.Snapshot (all_none (reasons line_limit c event.Snapshot) h).1.1.1
+takes_any c (event.Skip from posts) h = (takes_skip c from posts h).fits
 
 -- a counter that may not pass its limit
 pub stays_within : (limit before after : ℕ) → ((before == limit) && nat_lt before after) ≡ false → before ≤ limit → after ≤ before + 1 → after ≤ limit

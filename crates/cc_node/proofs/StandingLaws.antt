@@ -41,7 +41,7 @@ use Rattle.cc_node.specs.Lawful.{IsLastOf, IsLawfulCore, IsLawfulNode}
 use Rattle.cc_node.proofs.KnownLaws.{all_last}
 use Rattle.cc_node.proofs.KeptLaws.{posts_forget, answers_add}
 use Rattle.cc_node.proofs.Lists.{all_unmapped, if_at, inserted_here, inserted_beside}
-use Rattle.cc_node.proofs.LawfulLaws.{heard_at, same_heard, links_go_on, left_grows, add_all_heard, hears_now, step_lawful}
+use Rattle.cc_node.proofs.LawfulLaws.{heard_at, same_heard, links_go_on, left_grows, add_all_heard, hears_on, step_lawful}
 
 contains_head : {X : Type 0} (x : X) (xs : List X) → Contains (x ∷ xs) x
 contains_head x xs = (0, omega arith, refl)
@@ -170,23 +170,33 @@ acked_before : (n d : Node) (to heard : ℕ) → heard_from to d.core.links ≡ 
     → HasOutput n (output.Ack to heard)
 acked_before n d to heard same s = of_heard (table.get n.core.links to) heard (sym same ∙ ap heard_at s.1 ∙ s.2) s.3
 
+-- what a node hears on one link it acknowledges there, and of the others it acknowledged before what it does still
+heard_ack : (n d : Node) (e : Event) (from k : ℕ) (ids : List ℕ) (later : List Output) (to heard : ℕ)
+    → d.core.links ≡ hear from k (add_all n.core.posts (from ∷ ids) n.core.links) → outputs n.core e ≡ output.Ack from k ∷ later
+    → HasOutput d (output.Ack to heard) → HasOutput n (output.Ack to heard) ⊎ Contains (outputs n.core e) (output.Ack to heard)
+heard_ack n d e from k ids later to heard linked puts s =
+    let ls = add_all n.core.posts (from ∷ ids) n.core.links in
+    let last = ap heard_at s.1 ∙ s.2 in
+    elim (eqb_tells to from) as (λ _. HasOutput n (output.Ack to heard) ⊎ Contains (outputs n.core e) (output.Ack to heard)) [
+      | inl t ↦
+          let number : k ≡ heard = sym (hears_on n.core.posts from k ids n.core.links) ∙ ap (heard_from from) (sym linked)
+          ∙ ap (λ q. heard_from q d.core.links) (sym t.1) ∙ last in
+          let is : output.Ack from k ≡ output.Ack to heard = λ i. output.Ack (sym t.1 i) (number i) in
+          inr (subst (λ (os : List Output). Contains os (output.Ack to heard)) (sym puts)
+          (subst (Contains (output.Ack from k ∷ later)) is (contains_head (output.Ack from k) later)))
+      | inr t ↦
+          let same = ap (heard_from to) linked ∙ row_heard to from (λ l. record l { heard = k }) (table.get ls from) ls t.0
+          ∙ add_all_heard n.core.posts (from ∷ ids) n.core.links to in
+          inl (acked_before n d to heard same s)
+    ]
+
 step_ack : (n : Node) (e : Event) (to heard : ℕ) → HasOutput (step n e) (output.Ack to heard)
     → HasOutput n (output.Ack to heard) ⊎ Contains (outputs n.core e) (output.Ack to heard)
 unfolding step next
 step_ack n (event.Deliver from k m) to heard s =
-    let c = n.core in
-    let e = event.Deliver from k m in
-    let ls = add_all c.posts (from ∷ ids_of m) c.links in
-    elim (eqb_tells to from) as (λ _. HasOutput n (output.Ack to heard) ⊎ Contains (outputs n.core e) (output.Ack to heard)) [
-      | inl t ↦
-          let number : k ≡ heard = sym (hears_now c from k m) ∙ ap (λ q. heard_from q (hear from k ls)) (sym t.1) ∙ ap heard_at s.1 ∙ s.2 in
-          let is : output.Ack from k ≡ output.Ack to heard = λ i. output.Ack (sym t.1 i) (number i) in
-          let sent = send_ack (core.ack e) ++ send_post (next c e) (post c e) in
-          inr (Contains-append_left sent (send_replies (replies c e)) _ (subst (Contains sent) is (contains_head (output.Ack from k) _)))
-      | inr t ↦
-          let same = row_heard to from (λ l. record l { heard = k }) (table.get ls from) ls t.0 ∙ add_all_heard c.posts (from ∷ ids_of m) c.links to in
-          inl (acked_before n (step n e) to heard same s)
-    ]
+    heard_ack n (step n (event.Deliver from k m)) (event.Deliver from k m) from k (ids_of m) _ to heard refl refl s
+step_ack n (event.Skip from posts) to heard s =
+    heard_ack n (step n (event.Skip from posts)) (event.Skip from posts) from posts.last [] _ to heard refl refl s
 step_ack n (event.Acked peer k) to heard s =
     inl (acked_before n (step n (event.Acked peer k)) to heard (acked_heard to peer (λ _. k) (table.get n.core.links peer) n.core.links refl) s)
 step_ack n (event.Retire q) to heard s =

@@ -143,6 +143,7 @@ handled c (event.Ask s r command) = record c {
 handled c (event.Retire q) = record (with_links (q ∷ []) c) { churn = churn.with_left q c.churn }
 handled c (event.Lapse q) = record c { links = links.lapse c.posts q c.links }
 handled c event.Snapshot = c
+handled c (event.Skip from posts) = record c { links = links.hear from posts.last (links.add c.posts from c.links) }
 
 -- what a message is answered with
 abbrev pub post_to : Message → Core → Core → Option Message
@@ -180,6 +181,7 @@ next c e = record (handled c e) { posts = c.posts + option_len (post c e) }
 -- the acknowledgement of a delivery
 abbrev pub ack : Event → Option LinkAck
 ack (event.Deliver from n m) = Some (record { to = from; number = n })
+ack (event.Skip from posts) = Some (record { to = from; number = posts.last })
 ack _ = None
 
 -- what clients are told

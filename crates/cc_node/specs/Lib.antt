@@ -9,6 +9,7 @@ pub mod OpeningRules
 pub mod Codes
 pub mod Writes
 pub mod Known
+pub mod Skipping
 pub mod Lines
 pub mod Histories
 pub mod Parts

@@ -35,7 +35,7 @@ use Rattle.cc_outbox.specs.Outbox.{post_limit, trim}
 use Rattle.cc_node.specs.Core.{Core, asked_of, ids_of, with_links, links_heard, churn_told, join_told, asks_anew, anew_if, question_if}
 use Rattle.cc_node.specs.Core.{quorum, ack, replies, send_ack, send_post, send_replies, lowest}
 use Rattle.cc_node.specs.Node.{Node, keep, add, forget_asked}
-use Rattle.cc_node.specs.Refusals.{left, has_gone, not_entered, already_entered, not_joined, old, gap, nothing_to_ack, too_many_nodes}
+use Rattle.cc_node.specs.Refusals.{left, has_gone, not_entered, already_entered, not_joined, old, gap, gap_before, nothing_to_ack, too_many_nodes}
 use Rattle.cc_node.specs.Refusals.{too_many_sessions, repeat, stale, skip, nothing_to_lapse, any_overruns}
 
 -- ---- operations
@@ -92,6 +92,7 @@ handled_alone c (event.Ask s r command) = record c {
 handled_alone c (event.Retire q) = record (with_links (q ∷ []) c) { churn = churn.with_left q c.churn }
 handled_alone c (event.Lapse q) = record c { links = links.lapse c.posts q c.links }
 handled_alone c event.Snapshot = c
+handled_alone c (event.Skip from posts) = record c { links = links.hear from posts.last (links.add c.posts from c.links) }
 
 abbrev pub post_to_alone : Message → Core → Core → Option Message
 post_to_alone m before after =
@@ -143,6 +144,8 @@ reasons_alone c (event.Lapse q) =
     left c ∷ not_entered c ∷ not_joined c ∷ nothing_to_lapse c q ∷ spent_alone c (event.Lapse q) ∷ []
 reasons_alone c event.Snapshot =
     left c ∷ not_entered c ∷ not_joined c ∷ outbox_full_alone c event.Snapshot ∷ spent_alone c event.Snapshot ∷ []
+reasons_alone c (event.Skip from posts) =
+    left c ∷ not_entered c ∷ old c from posts.last ∷ gap_before c from posts.first ∷ too_many_nodes c (from ∷ []) ∷ spent_alone c (event.Skip from posts) ∷ []
 
 unfoldable pub decides_alone : Core → Event → Option Refusal
 decides_alone c e = first_of (reasons_alone c e)

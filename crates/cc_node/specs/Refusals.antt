@@ -24,7 +24,7 @@ use Rattle.cc_links.specs.Links as links
 use Rattle.cc_outbox.specs.Outbox.{post_limit}
 use Rattle.cc_sessions.specs.Sessions as sessions
 use Rattle.cc_sessions.specs.Sessions.{last_request}
-use Rattle.cc_node.specs.Core.{Core, next, post, lowest, ids_of, with_links}
+use Rattle.cc_node.specs.Core.{Core, next, post, lowest, ids_of, with_links, skips}
 
 abbrev pub left : Core → Option Refusal
 left c = coming.left c.me c.churn
@@ -48,6 +48,10 @@ old c from n = let heard = links.heard_from from c.links in then_some (nat_le n 
 -- a snapshot may leave out what was sent before it
 abbrev pub gap : Core → ℕ → ℕ → Message → Option Refusal
 gap c from n m = let heard = links.heard_from from c.links in then_some (nat_lt (heard + 1) n && not (is_snapshot m)) (refusal.Gap heard)
+
+-- a post before these may still come, and may be for this node
+abbrev pub gap_before : Core → ℕ → ℕ → Option Refusal
+gap_before c from first = then_some (skips c from first) (refusal.Gap (links.heard_from from c.links))
 
 abbrev pub nothing_to_ack : Core → ℕ → ℕ → Option Refusal
 nothing_to_ack c peer n = then_some (not (option_map_or (links.awaits_ack c.posts n) (table.get c.links peer) false)) refusal.NothingToAck
@@ -85,6 +89,7 @@ outbox_full c e = then_some (is_some (post c e) && ((c.posts - lowest c) == post
 -- of the tables only the row that the event is about can change; what is heard may rise by more than one
 abbrev pub row_overruns : Core → Core → Event → Bool
 row_overruns c d (event.Deliver from n m) = nat_lt counter_limit (links.heard_from from d.links)
+row_overruns c d (event.Skip from posts) = nat_lt counter_limit (links.heard_from from d.links)
 row_overruns c d (event.Ask s r command) = overruns (last_request c.sessions s) (last_request d.sessions s)
 row_overruns c d _ = false
 
@@ -111,6 +116,8 @@ reasons limit c (event.Ask s r command) =
 reasons limit c (event.Retire q) = left c ∷ has_gone c q ∷ not_entered c ∷ too_many_nodes c (q ∷ []) ∷ spent c (event.Retire q) ∷ []
 reasons limit c (event.Lapse q) = left c ∷ not_entered c ∷ not_joined c ∷ nothing_to_lapse c q ∷ spent c (event.Lapse q) ∷ []
 reasons limit c event.Snapshot = left c ∷ not_entered c ∷ not_joined c ∷ outbox_full c event.Snapshot ∷ spent c event.Snapshot ∷ []
+reasons limit c (event.Skip from posts) =
+    left c ∷ not_entered c ∷ old c from posts.last ∷ gap_before c from posts.first ∷ too_many_nodes c (from ∷ []) ∷ spent c (event.Skip from posts) ∷ []
 
 -- none, or the reason for which an event is refused, where no more than so many asks wait
 unfoldable pub decides_within : ℕ → Core → Event → Option Refusal

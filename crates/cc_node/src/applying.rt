@@ -13,7 +13,7 @@ use crate::made::{LinkAck, Made};
 use crate::named_nodes::link_named;
 use crate::node_core::Core;
 use crate::told::{ask_anew, count_told};
-use cc_messages::{Command, Event, Message, Refusal};
+use cc_messages::{Command, Event, Message, PostRange, Refusal};
 use cc_ops::Asked;
 use cc_views::{NoMemory, NodeId};
 use std::alloc::Global;
@@ -35,6 +35,7 @@ impl Core {
             } => self.made_of_delivery(alloc, *from, *number, message),
             Event::Acked { .. } | Event::Retire { .. } | Event::Lapse { .. } => Ok(Made::nothing()),
             Event::Snapshot => self.made_of_snapshot(alloc),
+            Event::Skip { from, posts } => Ok(Made::acknowledged(*from, posts.last())),
             Event::Ask {
                 session,
                 request,
@@ -157,6 +158,7 @@ impl Core {
             Event::Retire { node } => self.retire(*node),
             Event::Lapse { node } => self.lapse(*node),
             Event::Snapshot => self.snapshot(),
+            Event::Skip { from, posts } => self.skip(*from, *posts),
         }
     }
 
@@ -236,5 +238,14 @@ impl Core {
         ensures { self.new ≡ machine.next self.old event.Snapshot }
     {
         self.posts += 1;
+    }
+
+    fn skip(&mut self, from: NodeId, posts: PostRange)
+        requires { decides self.old (event.Skip from posts) ≡ None }
+        ensures { self.new ≡ machine.next self.old (event.Skip from posts) }
+    {
+        let made = self.posts;
+        self.links.add(from, made);
+        self.links.hear(from, posts.last());
     }
 }

@@ -18,7 +18,7 @@ ghost use Rattle.cc_node.specs.Refusals.{decides, decided};
 use crate::named_nodes::mark_named;
 use crate::node_core::Core;
 use cc_links::{KnownIds, Links};
-use cc_messages::{Command, Event, Message, Refusal};
+use cc_messages::{Command, Event, Message, PostRange, Refusal};
 use cc_outbox::Outbox;
 use cc_sessions::Checked;
 use cc_views::{COUNTER_LIMIT, NodeId};
@@ -47,6 +47,7 @@ impl Core {
             Event::Retire { node } => self.decide_retire(*node),
             Event::Lapse { node } => self.decide_lapse(*node),
             Event::Snapshot => self.decide_snapshot(),
+            Event::Skip { from, posts } => self.decide_skip(*from, *posts),
         }
     }
 
@@ -313,6 +314,35 @@ impl Core {
     {
         self.churn.decide_ask(self.me)?;
         self.decide_post()
+    }
+
+    fn decide_skip(&self, from: NodeId, posts: PostRange) -> Result<(), Refusal>
+        ensures { result ≡ decided (decides self.now (event.Skip from posts)) }
+    {
+        self.churn.decide_delivery(self.me)?;
+        self.decide_range(from, posts)?;
+        if self.knows_too_many_with(from) {
+            return Err(Refusal::TooManyNodes);
+        }
+        if posts.last() > COUNTER_LIMIT {
+            return Err(Refusal::Spent);
+        }
+        Ok(())
+    }
+
+    // Why the posts aren't the next ones of their link, if they aren't. Some of them may have been heard.
+    fn decide_range(&self, from: NodeId, posts: PostRange) -> Result<(), Refusal>
+        ensures { result ≡ decided (first_of (reasons.old self.now from posts.last
+            ∷ reasons.gap_before self.now from posts.first ∷ [])) }
+    {
+        let heard = self.heard(from);
+        if posts.last() <= heard {
+            return Err(Refusal::Old(heard));
+        }
+        if posts.first().saturating_sub(heard) > 1 {
+            return Err(Refusal::Gap(heard));
+        }
+        Ok(())
     }
 
     // Whether that node and the known ones are too many together.

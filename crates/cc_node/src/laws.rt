@@ -9,7 +9,8 @@ ghost use Rattle.cc_views.specs.Rows.{ViewMap};
 ghost use Rattle.cc_changes.specs.ChangeSets.{ChangeSets};
 ghost use Rattle.cc_links.specs.Links.{Link, heard_from};
 ghost use Rattle.cc_views.specs.Limits.{counter_limit, overruns};
-ghost use Rattle.cc_messages.specs.Messages.{is_snapshot};
+ghost use Rattle.cc_messages.specs.Messages.{is_snapshot, is_for};
+ghost use Rattle.cc_messages.specs.Ranges.{Range, IsRange};
 ghost use Rattle.cc_messages.specs.declared.message.Message.{Message};
 ghost use Rattle.cc_messages.specs.declared.event.Event.{Event};
 ghost use Rattle.cc_messages.specs.declared.event.Event.TheVariants as event;
@@ -19,7 +20,8 @@ ghost use Rattle.cc_messages.specs.declared.output.Output.{Output};
 ghost use Rattle.cc_ops.specs.declared.pending.Asked.{Asked};
 ghost use Rattle.cc_ops.specs.Rounds.{first_round, line_behind, of_kind, IsAt, ComesOn};
 ghost use Rattle.cc_ops.specs.Waiting.{writes_by, written_by};
-ghost use Rattle.cc_node.specs.Core.{Core, quorum, churned, churn_told, asks_anew, ops_anew, begun, replies, next};
+ghost use Rattle.cc_node.specs.Core.{Core, quorum, churned, churn_told, asks_anew, ops_anew, begun, ids_of, replies, outputs, next};
+ghost use Rattle.cc_node.specs.Skipping.{single, numbers, skipped_in_turn, AreKnown};
 ghost use Rattle.cc_node.specs.Node.{Node, step, after, line, HasOutput, MayBeOut, IsLawful, IsLawfulWithin};
 ghost use Rattle.cc_node.specs.OneAtATime.{waiting, decides_alone, next_alone, post_alone, step_alone, after_alone};
 ghost use Rattle.cc_node.specs.OneAtATime.{line_alone, IsLawfulAlone};
@@ -155,4 +157,24 @@ pub fn asks_anew_alone()
         → ((next c (event.Deliver from n (message.Snapshot d v))).ops
         ≡ anew (quorum (next c (event.Deliver from n (message.Snapshot d v)))) (merged v c.ops))
         × ((next c (event.Deliver from n (message.Snapshot d v))).sessions ≡ c.sessions) }
+{}
+
+/// An answer to another node changes nothing but what is heard on its link. So where the nodes that it names are known,
+/// whether it is refused and why, the node that it leads to, and what is put out are those of a Skip of its number.
+pub fn answers_to_others_are_skipped()
+    ensures refused { (c : Core) (from n : ℕ) (m : Message) → is_for m c.me ≡ false → AreKnown c (ids_of m)
+        → decides c (event.Deliver from n m) ≡ decides c (event.Skip from (single n)) }
+    ensures step { (x : Node) (from n : ℕ) (m : Message) → is_for m x.core.me ≡ false → AreKnown x.core (ids_of m)
+        → step x (event.Deliver from n m) ≡ step x (event.Skip from (single n)) }
+    ensures puts { (c : Core) (from n : ℕ) (m : Message) → is_for m c.me ≡ false → AreKnown c (ids_of m)
+        → outputs c (event.Deliver from n m) ≡ outputs c (event.Skip from (single n)) }
+{}
+
+/// A Skip of a range is the Skips of its numbers, one behind the other; and where one range comes behind another, both are
+/// the Skip from the first number of the one to the last of the other.
+pub fn ranges_are_skipped_in_turn()
+    ensures numbers { (c : Core) (from : ℕ) (r : Range) → IsRange r
+        → skipped_in_turn c from (numbers r) ≡ next c (event.Skip from r) }
+    ensures parts { (c : Core) (from : ℕ) (first second : Range) → next (next c (event.Skip from first)) (event.Skip from second)
+        ≡ next c (event.Skip from (record { first = first.first; last = second.last })) }
 {}

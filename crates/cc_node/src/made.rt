@@ -33,6 +33,17 @@ impl Made {
         }
     }
 
+    // An acknowledgement alone.
+    pub(crate) fn acknowledged(to: NodeId, number: u64) -> Self
+        ensures { result ≡ record { ack = Some (record { to = to; number = number }); post = None; answers = [] } }
+    {
+        Made {
+            ack: Some(LinkAck { to, number }),
+            post: None,
+            answers: Replies::none(),
+        }
+    }
+
     pub(crate) fn nothing() -> Self
         ensures { result ≡ record { ack = None; post = None; answers = [] } }
     {

@@ -221,7 +221,8 @@ fn forget_asked(outbox: &mut Outbox, event: &Event)
         | Event::Acked { .. }
         | Event::Retire { .. }
         | Event::Lapse { .. }
-        | Event::Snapshot => {}
+        | Event::Snapshot
+        | Event::Skip { .. } => {}
     }
 }
 

@@ -13,6 +13,7 @@ pub struct RunWords<'a> {
     pub listen: &'a str,
     pub listen_clients: Option<&'a str>,
     pub operators: Option<&'a str>,
+    pub answers: Option<&'a str>,
     pub peers: Option<&'a str>,
     /// The path of a file whose lines are the peers.
     pub peers_file: Option<&'a str>,
@@ -50,6 +51,8 @@ pub struct RunOrder {
     pub listen_clients: Option<SocketAddr>,
     /// Whether it takes the operator's requests that come from other machines.
     pub remote_operators: bool,
+    /// Whether the answers to an operation go to all nodes, not to that alone which asked.
+    pub answers_to_all: bool,
     pub peers: Vec<Peer>,
     /// Where it tells its status. None where it doesn't.
     pub status: Option<SocketAddr>,
@@ -58,7 +61,8 @@ pub struct RunOrder {
 
 impl RunOrder {
     /// What these words ask for: the address behind `--listen`, those behind `--listen-clients` and `--status` where they are
-    /// given, whether `--operators` is on, as it is where it isn't given, the peers behind `--peers` or those on the lines of
+    /// given, whether `--operators` is on, as it is where it isn't given, whether `--answers` go to all, as they don't where it
+    /// isn't given, the peers behind `--peers` or those on the lines of
     /// the file behind `--peers-file`, none where neither is given, and the level behind `--log`, else info. `lines` is the
     /// text of that file. A peer that is named twice is a fault.
     pub fn parse(
@@ -69,6 +73,7 @@ impl RunOrder {
         let listen = address(words.listen).ok_or(WordFault::Listen)?;
         let listen_clients = address_in(words.listen_clients, WordFault::ListenClients)?;
         let remote_operators = switch_in(words.operators)?;
+        let answers_to_all = answers_in(words.answers)?;
         let status = address_in(words.status, WordFault::Status)?;
         let log = level_in(words.log)?;
         if words.peers.is_some() && words.peers_file.is_some() {
@@ -79,6 +84,7 @@ impl RunOrder {
             listen,
             listen_clients,
             remote_operators,
+            answers_to_all,
             peers,
             status,
             log,
@@ -116,6 +122,15 @@ fn switch_in(word: Option<&str>) -> Result<bool, WordFault> {
         "on" => Ok(true),
         "off" => Ok(false),
         _ => Err(WordFault::Operators),
+    }
+}
+
+// Whether answers go to all: to the node alone that asked, unless it says `all`.
+fn answers_in(word: Option<&str>) -> Result<bool, WordFault> {
+    match word.unwrap_or("asker") {
+        "asker" => Ok(false),
+        "all" => Ok(true),
+        _ => Err(WordFault::Answers),
     }
 }
 

@@ -18,6 +18,7 @@ pub enum WordFault {
     Listen,
     ListenClients,
     Operators,
+    Answers,
     Peers,
     PeerTwice,
     PeerItself,
@@ -63,6 +64,7 @@ impl WordFault {
                 "--listen-clients isn't an address and a port, such as 127.0.0.1:7501"
             }
             WordFault::Operators => "--operators isn't one of: on, off",
+            WordFault::Answers => "--answers isn't one of: asker, all",
             WordFault::Peers => {
                 "--peers isn't a list of peers, such as 2=127.0.0.1:7002,3=127.0.0.1:7003"
             }

@@ -10,3 +10,4 @@ mod StandingsLaws
 mod StirLaws
 mod WishingLaws
 mod LastAskLaws
+mod WithholdingLaws

@@ -25,6 +25,7 @@ abbrev pub allows : Access → Event → Bool
 allows access event.Leave = access.operators
 allows access (event.Deliver from number m) = access.nodes
 allows access (event.Acked peer number) = access.nodes
+allows access (event.Skip from posts) = access.nodes
 allows access (event.Ask session request command) = access.asks
 allows access (event.Retire node) = access.operators
 allows access _ = false

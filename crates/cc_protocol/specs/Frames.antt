@@ -1,10 +1,15 @@
 -- What a frame brings, and which frame an output or a refusal is.
 --     event_in           the event that a frame is; none where a node only sends such frames
 --     output_frame       an output, as the frame of the node that sends it
+--     due_spelling       what is written to a peer once a post was put for it
 --     refusing           the frame that tells a client why its request was refused
 --     refusal_frame      what a connection is told of a refused event, if anything
-use Rattle.std.specs.Prelude.{ℕ, Option, Some, None}
+use Rattle.std.specs.Prelude.{ℕ, List, [], ◌++◌, Option, Some, None, if◌then◌else◌}
 use Rattle.cc_messages.specs.Refusals.{number_of, value_of}
+use Rattle.cc_messages.specs.Ranges.{Range}
+use Rattle.cc_messages.specs.declared.message.Message.{Message}
+use Rattle.cc_frames.specs.Frames.{frame_spelling}
+use Rattle.cc_protocol.specs.declared.withheld.Due.{Due}
 use Rattle.cc_messages.specs.declared.event.Event.{Event}
 use Rattle.cc_messages.specs.declared.event.Event.TheVariants as event
 use Rattle.cc_frames.specs.declared.frame.Frame.{Frame}
@@ -21,7 +26,18 @@ event_in (frame.Reply session request answer) = None
 event_in (frame.Refused session request refusal value) = None
 event_in frame.Leave = Some event.Leave
 event_in (frame.Retire node) = Some (event.Retire node)
+event_in (frame.Skip from posts) = Some (event.Skip from posts)
 event_in (frame.RetireIfSilent node) = Some (event.Retire node)
+
+-- what tells a peer that these posts of the node `me` are for others
+abbrev pub skip_spelling : ℕ → Option Range → List ℕ
+skip_spelling me None = []
+skip_spelling me (Some posts) = frame_spelling (frame.Skip me posts)
+
+-- what is due once a post was put, as the node `me` writes it: the range that is skipped comes first
+abbrev pub due_spelling : ℕ → Due → ℕ → Message → List ℕ
+due_spelling me due number message =
+    skip_spelling me due.skip ++ (if due.has_post then frame_spelling (frame.Post me number message) else [])
 
 -- where it goes is told by the connection alone
 abbrev pub output_frame : ℕ → Output → Frame

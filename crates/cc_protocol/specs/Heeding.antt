@@ -39,6 +39,7 @@ heed_unasked session e why = told e why
 
 abbrev pub heed_refused : Event → Refusal → Bool → Duty
 heed_refused (event.Deliver from number m) why differs = heed_undelivered from why
+heed_refused (event.Skip from posts) why differs = heed_undelivered from why
 heed_refused (event.Ask session request command) why differs = heed_unasked session (event.Ask session request command) (told_of request differs why)
 heed_refused e why differs = told e why
 

@@ -17,3 +17,4 @@ pub mod Bundles
 pub mod Calling
 pub mod Wishing
 pub mod LastAsks
+pub mod Withholding

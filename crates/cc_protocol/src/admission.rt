@@ -44,7 +44,8 @@ pub fn may_hand_over(me: NodeId, event: &Event, kept: u64, is_furthest: bool, wa
         | Event::Acked { .. }
         | Event::Retire { .. }
         | Event::Lapse { .. }
-        | Event::Snapshot => true,
+        | Event::Snapshot
+        | Event::Skip { .. } => true,
     }
 }
 

@@ -1,12 +1,13 @@
 //! Which event a frame brings, and which frame an output or a refusal is.
 
-ghost use Rattle.std.specs.Prelude.{◌≡◌, ℕ, IfOk};
+ghost use Rattle.std.specs.Prelude.{◌≡◌, ◌++◌, ℕ, Some, IfOk, OnOk};
 ghost use Rattle.cc_frames.specs.Frames.{frame_spelling};
 ghost use Rattle.cc_messages.specs.declared.output.Output.TheVariants as output;
-ghost use Rattle.cc_protocol.specs.Frames.{event_in, output_frame, refusing, refusal_frame};
+ghost use Rattle.cc_protocol.specs.Frames.{event_in, output_frame, refusing, refusal_frame, skip_spelling, due_spelling};
 
-use cc_frames::{Frame, encode_post, encode_reply};
-use cc_messages::{Answer, Event, Message, Refusal};
+use crate::withheld::Due;
+use cc_frames::{Frame, encode_frame, encode_post, encode_reply};
+use cc_messages::{Answer, Event, Message, PostRange, Refusal};
 use cc_views::{NoMemory, NodeId};
 use std::alloc::Global;
 
@@ -37,21 +38,46 @@ pub fn event_of(frame: Frame) -> Option<Event>
         Frame::Reply { .. } | Frame::Refused { .. } => None,
         Frame::Leave => Some(Event::Leave),
         Frame::Retire { node } | Frame::RetireIfSilent { node } => Some(Event::Retire { node }),
+        Frame::Skip { from, posts } => Some(Event::Skip { from, posts }),
     }
 }
 
-/// The bytes of a message of the node `me`, the one with this number on the link that it goes over.
-pub fn post_bytes(
+/// The bytes that tell a peer that these posts of the node `me` are for others.
+pub fn skip_bytes(alloc: Global, me: NodeId, posts: PostRange) -> Result<Vec<u8>, NoMemory>
+    ensures { IfOk result (λ v. v.items ≡ skip_spelling me (Some posts)) }
+{
+    let mut bytes = Vec::new(alloc);
+    put_skip(&mut bytes, me, Some(posts))?;
+    Ok(bytes)
+}
+
+/// The bytes of what is due to a peer once a message of the node `me` was put for it, under this number of its link. The
+/// message isn't copied, and it is spelled only where it is due.
+pub fn due_bytes(
     alloc: Global,
     me: NodeId,
+    due: &Due,
     number: u64,
     message: &Message,
 ) -> Result<Vec<u8>, NoMemory>
-    ensures { IfOk result (λ v. (to : ℕ) → v.items ≡ frame_spelling (output_frame me (output.Send to number message.now))) }
+    ensures { IfOk result (λ v. v.items ≡ due_spelling me due.now number message.now) }
 {
     let mut bytes = Vec::new(alloc);
-    encode_post(me, number, message, &mut bytes)?;
+    put_skip(&mut bytes, me, due.skip)?;
+    if due.has_post {
+        encode_post(me, number, message, &mut bytes)?;
+    }
     Ok(bytes)
+}
+
+// Appends what tells that posts are for others, where there are any.
+fn put_skip(bytes: &mut Vec<u8>, me: NodeId, posts: Option<PostRange>) -> Result<(), NoMemory>
+    ensures { OnOk result (bytes.new.items ≡ bytes.old.items ++ skip_spelling me posts) }
+{
+    match posts {
+        Some(posts) => encode_frame(&Frame::Skip { from: me, posts }, bytes),
+        None => Ok(()),
+    }
 }
 
 /// What tells a peer that the node `me` has all that it sent up to this number.
@@ -91,7 +117,8 @@ pub fn refused_frame(event: &Event, refusal: Refusal) -> Option<Frame>
         | Event::Deliver { .. }
         | Event::Acked { .. }
         | Event::Lapse { .. }
-        | Event::Snapshot => None,
+        | Event::Snapshot
+        | Event::Skip { .. } => None,
     }
 }
 

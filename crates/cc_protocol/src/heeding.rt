@@ -53,7 +53,7 @@ fn heed_refused(event: &Event, refusal: Refusal, differs: bool) -> Duty
     ensures { result ≡ heed_refused event.now refusal differs }
 {
     match event {
-        Event::Deliver { from, .. } => heed_undelivered(*from, refusal),
+        Event::Deliver { from, .. } | Event::Skip { from, .. } => heed_undelivered(*from, refusal),
         Event::Ask {
             session,
             request,

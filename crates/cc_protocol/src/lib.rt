@@ -21,6 +21,7 @@ mod speakers;
 mod standing;
 mod standings;
 mod wishes;
+mod withheld;
 
 pub use admission::{
     is_furthest_behind, is_given_up, may_hand_over, what_needs_no_room_makes_no_post,
@@ -31,7 +32,7 @@ pub use asking::{
 };
 pub use bundle::{Bundle, Parcel};
 pub use calling::{Calls, snapshots_keep_apart};
-pub use frames::{ack_frame, event_of, post_bytes, refused_frame, reply_bytes};
+pub use frames::{ack_frame, due_bytes, event_of, refused_frame, reply_bytes, skip_bytes};
 pub use heeding::{Duty, heed};
 pub use incoming::{Ending, Incoming, Input};
 pub use last_asks::LastAsks;
@@ -49,3 +50,4 @@ pub use speakers::{Speaker, Speakers, Spoken};
 pub use standing::{Standing, none_lapses_but_absent, who_keeps_up_stays};
 pub use standings::{Passed, PeerStanding, Standings, lapses_are_of_absent_peers};
 pub use wishes::Wishes;
+pub use withheld::{Due, Withheld};

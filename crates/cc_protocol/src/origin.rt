@@ -60,7 +60,7 @@ impl Access {
     {
         match event {
             Event::Ask { .. } => self.asks,
-            Event::Deliver { .. } | Event::Acked { .. } => self.nodes,
+            Event::Deliver { .. } | Event::Acked { .. } | Event::Skip { .. } => self.nodes,
             Event::Leave | Event::Retire { .. } => self.operators,
             Event::Enter | Event::Lapse { .. } | Event::Snapshot => false,
         }

@@ -1,9 +1,10 @@
 -- What a worker brings.
 --     same_again   whether an event is brought again, whatever it repeats
+--     none_due     none is due where none is brought again
 --     unasked      of a frame that only a node sends
 --     brings       of one that gives and hears so
-use Rattle.std.proofs.Common.{◌≡◌, ℕ, List, [], ◌∷◌, Option, Some, None, Bool, true, false, Result, Ok, Err, sym, subst, refl}
-use Rattle.std.specs.Prelude.{IfSome}
+use Rattle.std.proofs.Common.{◌≡◌, ℕ, List, [], ◌∷◌, Option, Some, None, Bool, true, false, Result, Ok, Err, sym, ap, subst, refl, ◌∙◌}
+use Rattle.std.specs.Prelude.{IfSome, if◌then◌else◌}
 use Rattle.cc_messages.specs.declared.event.Event.{Event}
 use Rattle.cc_messages.specs.declared.event.Event.TheVariants as event
 use Rattle.cc_messages.specs.declared.refusal.Refusal.{Refusal}
@@ -11,6 +12,7 @@ use Rattle.cc_messages.specs.declared.refusal.Refusal.TheVariants as refusal
 use Rattle.cc_intake.specs.Talks.{Answer, Spoke, Talks}
 use Rattle.cc_frames.specs.declared.frame.Frame.{Frame}
 use Rattle.cc_messages.specs.declared.command.Command.{Command}
+use Rattle.cc_protocol.specs.declared.heeding.Duty.{Duty}
 use Rattle.cc_protocol.specs.Heeding.{heed_of, heed_refused}
 use Rattle.cc_protocol.specs.Incoming.{Next}
 use Rattle.cc_protocol.specs.Frames.{event_in}
@@ -48,6 +50,7 @@ refused_again (event.Ask session request command) why differs = asked_again sess
 refused_again (event.Retire node) why differs = refl
 refused_again (event.Lapse node) why differs = refl
 refused_again event.Snapshot why differs = refl
+refused_again (event.Skip from posts) why differs = refl
 
 stirred_again : (e : Event) (stirs differs : Bool) → brings_again (heed_of e (Ok stirs) differs) ≡ brings_again (heed_of e (Ok stirs) false)
 stirred_again e true differs = refl
@@ -56,6 +59,12 @@ stirred_again e false differs = refl
 pub same_again : (e : Event) (answer : Answer) (differs : Bool) → brings_again (duty_of e answer differs) ≡ brings_again (duty_of e answer false)
 same_again e (Ok a) differs = stirred_again e a.stirs differs
 same_again e (Err refused) differs = refused_again e refused.why differs
+
+pub none_due : (e : Event) (answer : Answer) (differs b : Bool) (d : Duty) → d ≡ duty_of e answer differs → b ≡ brings_again d → b ≡ false
+    → None ≡ due_after e answer
+none_due e answer differs b d is brings is_false =
+    let none : brings_again (duty_of e answer false) ≡ false = sym (same_again e answer differs) ∙ ap brings_again (sym is) ∙ sym brings ∙ is_false in
+    ap (λ (x : Bool). if x then Some e else None) (sym none)
 
 pub unasked : (ahead : Option (List ℕ)) (frame : Frame) (after : Option (List ℕ)) → IfSome ahead (λ bytes. Next bytes frame after) → event_in frame ≡ None
     → IfSome ahead (λ bytes. IsUnasked bytes)

@@ -189,6 +189,7 @@ impl<R: Wait + Log, I: Input, S: Admitting, D: Replies, F: Flushed> Caller<'_, R
                 debug!(self.rt; "node {} takes request {} of session {} from {}", self.me.number(), request, session, self.address);
             }
             Event::Deliver { from, message, .. } => self.meeting().hear(self.rt, *from, message),
+            Event::Skip { .. } => self.shared.gauges.hear_skip(),
             Event::Acked { peer, .. } => {
                 if self.shared.hear_ack(self.rt, *peer) {
                     give_notice(self.rt, self.me, &Notice::Back(*peer));

@@ -14,6 +14,9 @@ pub struct Config<'a> {
     pub listen_clients: Option<SocketAddr>,
     /// Whether it takes the operator's requests that come from other machines.
     pub remote_operators: bool,
+    /// Whether the answers to an operation go to all nodes, as programs take them that know no Skip; else to the node alone
+    /// that asked.
+    pub answers_to_all: bool,
     /// Where other nodes listen. What is for one that isn't among them is lost.
     pub peers: Vec<Peer>,
     /// The file that says so, one peer a line, if there is one: it is read again while the node runs.

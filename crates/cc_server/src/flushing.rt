@@ -1,7 +1,7 @@
 //! The flusher's thread.
 
 use crate::known::Stranger;
-use crate::looking::{Looks, look};
+use crate::looking::{Looks, look, tell_withheld};
 use crate::notes::Note;
 use crate::of_life::OfLife;
 use crate::shared::Shared;
@@ -70,6 +70,9 @@ pub fn flush_all<S: Site, L: Life, Q: Lane, R: Wait + Clock>(
         }
         let core = turner.engine().twin().core();
         look(rt, core, watch.shared, &mut looks, is_tick);
+        if is_tick {
+            tell_withheld(rt, watch.alloc, core, watch.shared);
+        }
         if events >= Batch::MAX_ENTRIES as u64 || turner.keeps_one() || is_wished {
             continue;
         }

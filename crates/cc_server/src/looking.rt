@@ -2,12 +2,14 @@
 
 use crate::notes::{Note, Waiting};
 use crate::shared::Shared;
+use cc_channels::PeerChannel;
 use cc_links::LinkRow;
 use cc_messages::Event;
 use cc_node::Core;
 use cc_ops::{Pending, Stage};
-use cc_protocol::{AskName, Calls, Lasting, Passed};
+use cc_protocol::{AskName, Calls, Lasting, Parcel, Passed, skip_bytes};
 use cc_views::NodeId;
+use std::alloc::Global;
 use std::sync::Wait;
 
 /// What the flusher remembers of the seconds before. Begun anew, it finds the same in the state within three seconds.
@@ -52,6 +54,30 @@ pub fn look<R: Wait>(rt: &R, core: &Core, shared: &Shared, looks: &mut Looks, is
     }
 }
 
+/// Tells each peer, and the node itself, which of the last posts are for others: what was withheld until now.
+pub fn tell_withheld<R: Wait>(rt: &R, alloc: Global, core: &Core, shared: &Shared) {
+    let me = core.me();
+    for link in core.links().rows() {
+        if let Some(channel) = shared.channel_to(link.peer) {
+            tell_peer(rt, alloc, me, channel, shared);
+        }
+    }
+    if let Some(posts) = shared.own.take_withheld(rt) {
+        shared.gauges.send_skip();
+        shared.own.put(rt, Event::Skip { from: me, posts });
+    }
+}
+
+fn tell_peer<R: Wait>(rt: &R, alloc: Global, me: NodeId, channel: &PeerChannel, shared: &Shared) {
+    let Some(posts) = channel.take_withheld(rt) else {
+        return;
+    };
+    if let Ok(bytes) = skip_bytes(alloc, me, posts) {
+        shared.gauges.send_skip();
+        channel.put(rt, Parcel::Post(bytes));
+    }
+}
+
 // So many seconds have passed for all peers, of which each is told that the node is there. Whether one that is absent was heard.
 fn pass_second<R: Wait>(rt: &R, core: &Core, shared: &Shared, seconds: u64) -> bool {
     let mut is_back = false;
@@ -68,10 +94,20 @@ fn pass_second<R: Wait>(rt: &R, core: &Core, shared: &Shared, seconds: u64) -> b
 }
 
 fn pass_link<R: Wait>(rt: &R, core: &Core, shared: &Shared, link: &LinkRow) -> Passed {
-    let sent = core.posts().saturating_sub(link.start);
+    let sent = sent_to(rt, core, shared, link);
     let is_live = core.is_live(link.peer);
     let mut standings = shared.standings.lock(rt);
     standings.pass_second(link.peer, link.acked, sent, is_live)
+}
+
+// How many posts a peer was sent: what is withheld from it isn't sent yet.
+fn sent_to<R: Wait>(rt: &R, core: &Core, shared: &Shared, link: &LinkRow) -> u64 {
+    let withheld = match shared.channel_to(link.peer) {
+        Some(channel) => channel.withheld(rt),
+        None => 0,
+    };
+    let posts = core.posts().saturating_sub(link.start);
+    posts.saturating_sub(withheld)
 }
 
 // Has a peer hear a sign of life, tells the channel to it whether it is behind, and notes that it is taken for absent. A peer that

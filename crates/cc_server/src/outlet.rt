@@ -1,11 +1,13 @@
 //! The outlet of a node: the channels to its peers and to itself, and its connections.
 
+ghost use Rattle.std.specs.Prelude.{◌≤◌};
+
 use crate::notes::Note;
 use crate::shared::Shared;
 use cc_channels::PeerChannel;
 use cc_files::Outlet;
 use cc_messages::{Answer, Event, Message};
-use cc_protocol::{Parcel, post_bytes, reply_bytes};
+use cc_protocol::{Due, Parcel, due_bytes, reply_bytes};
 use cc_site::Side;
 use cc_views::NodeId;
 use std::alloc::Global;
@@ -18,6 +20,8 @@ pub struct ServerOutlet<'a, R: Wait> {
     pub rt: &'a R,
     pub alloc: Global,
     pub shared: &'a Shared,
+    /// Whether the answers to an operation go to all nodes, not to that alone which asked.
+    pub answers_to_all: bool,
 }
 
 impl<R: Wait> ServerOutlet<'_, R> {
@@ -30,7 +34,28 @@ impl<R: Wait> ServerOutlet<'_, R> {
         self.shared.own.put(self.rt, event);
     }
 
-    fn deliver(&self, from: NodeId, number: u64, message: &Message) {
+    // Whether a peer is to get a message: not the answer to another one's operation, unless all do.
+    fn is_for(&self, message: &Message, peer: NodeId) -> bool {
+        self.answers_to_all || message.is_for(peer)
+    }
+
+    // What the node posts to itself comes as to any peer.
+    fn deliver(&self, from: NodeId, number: u64, message: &Message)
+        requires { 1 ≤ number }
+    {
+        let is_for = self.is_for(message, from);
+        let due = self.shared.own.due(self.rt, number, is_for);
+        self.shared.gauges.put_post(is_for);
+        if let Some(posts) = due.skip {
+            self.shared.gauges.send_skip();
+            self.hear(Event::Skip { from, posts });
+        }
+        if due.has_post {
+            self.hear_message(from, number, message);
+        }
+    }
+
+    fn hear_message(&self, from: NodeId, number: u64, message: &Message) {
         if let Ok(message) = message.copy(self.alloc) {
             self.hear(Event::Deliver {
                 from,
@@ -40,19 +65,30 @@ impl<R: Wait> ServerOutlet<'_, R> {
         }
     }
 
-    fn post(&self, channel: &PeerChannel, number: u64, message: &Message) {
+    fn post(&self, channel: &PeerChannel, number: u64, message: &Message)
+        requires { 1 ≤ number }
+    {
         if channel.is_muted() {
             return;
         }
-        if let Some(bytes) = self.posted(number, message) {
+        let is_for = self.is_for(message, channel.peer);
+        let due = channel.due(self.rt, number, is_for);
+        self.shared.gauges.put_post(is_for);
+        if due.skip.is_some() {
+            self.shared.gauges.send_skip();
+        }
+        if let Some(bytes) = self.spelled(&due, number, message) {
             channel.put(self.rt, Parcel::Post(bytes));
         }
     }
 
-    // The bytes of a message as a peer reads them.
-    fn posted(&self, number: u64, message: &Message) -> Option<Vec<u8>> {
+    // The bytes of what is due to a peer, if anything is.
+    fn spelled(&self, due: &Due, number: u64, message: &Message) -> Option<Vec<u8>> {
+        if due.skip.is_none() && !due.has_post {
+            return None;
+        }
         let me = self.shared.me.get()?;
-        post_bytes(self.alloc, *me, number, message).ok()
+        due_bytes(self.alloc, *me, due, number, message).ok()
     }
 
     // The bytes of an answer as its client reads them.
@@ -67,6 +103,9 @@ impl<R: Wait> ServerOutlet<'_, R> {
 
 impl<R: Wait> Outlet for ServerOutlet<'_, R> {
     fn send(&mut self, to: NodeId, number: u64, message: &Message) {
+        if number == 0 {
+            return;
+        }
         if self.is_me(to) {
             self.deliver(to, number, message);
         } else if let Some(channel) = self.shared.channel_to(to) {

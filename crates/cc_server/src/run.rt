@@ -133,6 +133,7 @@ where
         rt: run.rt,
         alloc: run.alloc,
         shared: run.shared,
+        answers_to_all: run.config.answers_to_all,
     };
     let site = match FileSite::open(run.rt, run.alloc, run.config.dir, outlet) {
         Ok(site) => site,

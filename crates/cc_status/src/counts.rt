@@ -44,6 +44,10 @@ pub struct Counted {
     pub checkpoints: u64,
     /// How many connections are open.
     pub connections: u64,
+    /// How many posts were withheld from peers that they aren't for, how many skips told of such posts, and how many came.
+    pub withheld: u64,
+    pub skips_sent: u64,
+    pub skips_heard: u64,
     /// How many events were refused, by the refusal's place in `REFUSALS`.
     pub refusals: [u64; 18],
     /// How many asks were accepted, by their command's place in `COMMANDS`.

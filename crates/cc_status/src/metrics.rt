@@ -191,6 +191,21 @@ fn print_counts<W: fmt::Write>(f: &mut fmt::Formatter<W>, status: &Status) -> fm
                 "Posts made in the node's life.",
                 posts.made.0,
             ),
+            counter(
+                "posts_withheld_total",
+                "Posts not sent to a peer, since they are for another, since the start.",
+                counts.withheld,
+            ),
+            counter(
+                "skips_sent_total",
+                "Times a peer was told of such posts, since the start.",
+                counts.skips_sent,
+            ),
+            counter(
+                "skips_heard_total",
+                "Times a peer told of such posts, since the start.",
+                counts.skips_heard,
+            ),
             gauge("posts_kept", "Posts kept for peers.", posts.kept),
             gauge(
                 "posts_limit",

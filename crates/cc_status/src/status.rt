@@ -136,6 +136,10 @@ pub struct Counts {
     pub checkpoints: u64,
     /// How many connections are open.
     pub connections: u64,
+    /// How many posts were withheld from peers that they aren't for, and how many skips told of such posts, sent and heard.
+    pub withheld: u64,
+    pub skips_sent: u64,
+    pub skips_heard: u64,
     /// How many events were refused, by the refusal's name, and how many asks were accepted, by their command.
     pub refusals: BTreeMap<String, u64>,
     pub asks: BTreeMap<String, u64>,

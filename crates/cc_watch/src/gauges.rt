@@ -26,6 +26,10 @@ pub struct Gauges {
     // The longest since it was asked for last.
     slowest_us: AtomicU64,
     connections: AtomicU64,
+    // How many posts were withheld, and how many skips went out and came in.
+    withheld: AtomicU64,
+    skips_sent: AtomicU64,
+    skips_heard: AtomicU64,
 }
 
 impl Gauges {
@@ -48,6 +52,9 @@ impl Gauges {
             worst_us: AtomicU64::new(0),
             slowest_us: AtomicU64::new(0),
             connections: AtomicU64::new(0),
+            withheld: AtomicU64::new(0),
+            skips_sent: AtomicU64::new(0),
+            skips_heard: AtomicU64::new(0),
         })
     }
 
@@ -91,11 +98,31 @@ impl Gauges {
         self.connections.fetch_sub(1, Ordering::SeqCst);
     }
 
+    /// A post was put for a peer, which is withheld where it isn't for that one.
+    pub fn put_post(&self, is_for: bool) {
+        if !is_for {
+            self.withheld.fetch_add(1, Ordering::SeqCst);
+        }
+    }
+
+    /// A peer was told which posts are for others.
+    pub fn send_skip(&self) {
+        self.skips_sent.fetch_add(1, Ordering::SeqCst);
+    }
+
+    /// A peer told which posts are for others.
+    pub fn hear_skip(&self) {
+        self.skips_heard.fetch_add(1, Ordering::SeqCst);
+    }
+
     /// Puts what was counted where it is shown.
     pub fn read(&self, counted: &mut Counted) {
         copy_all(&self.refusals, &mut counted.refusals);
         copy_all(&self.asks, &mut counted.asks);
         counted.connections = self.connections.load(Ordering::SeqCst);
+        counted.withheld = self.withheld.load(Ordering::SeqCst);
+        counted.skips_sent = self.skips_sent.load(Ordering::SeqCst);
+        counted.skips_heard = self.skips_heard.load(Ordering::SeqCst);
         let syncs = &mut counted.syncs;
         copy_all(&self.buckets, &mut syncs.buckets);
         syncs.total_us = self.total_us.load(Ordering::SeqCst);

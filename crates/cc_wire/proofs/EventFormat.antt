@@ -1,12 +1,13 @@
 -- Events are read as they are spelled.
 use Rattle.std.proofs.Common.{◌≡◌, ℕ, cond, eqb, List, [], ◌∷◌, ◌++◌, Ok, refl}
 use Rattle.cc_messages.specs.declared.event.Event.{Event}
-use Rattle.cc_messages.specs.declared.event.Event.TheVariants.{Enter, Leave, Deliver, Acked, Ask, Retire, Lapse, Snapshot}
+use Rattle.cc_messages.specs.declared.event.Event.TheVariants.{Enter, Leave, Deliver, Acked, Ask, Retire, Lapse, Snapshot, Skip}
 use Rattle.cc_wire.specs.Reading.{Reading, via}
 use Rattle.cc_wire.specs.Events.{numbered_spelling, IsNumbered, numbered_at, delivery_spelling, IsDelivery, delivery_at, place_spelling, IsPlace}
 use Rattle.cc_wire.specs.Events.{place_at, asked_spelling, IsAsked, asked_at, event_spelling, IsEvent, event_fields, event_at}
+use Rattle.cc_wire.specs.Events.{skip_spelling, IsSkip, skip_at}
 use Rattle.cc_wire.proofs.Spelled.{IsBytes, Takes, Spelled, both, as_facts, nothing_spelled, kind_or, kinded_takes}
-use Rattle.cc_wire.proofs.Formats.{id_spelled, u64_spelled}
+use Rattle.cc_wire.proofs.Formats.{id_spelled, u64_spelled, range_spelled}
 use Rattle.cc_wire.proofs.MessageFormat.{message_spelled}
 use Rattle.cc_wire.proofs.CommandFormat.{command_spelled}
 
@@ -34,6 +35,12 @@ asked_spelled = as_facts (λ f. IsAsked f.0.0 f.0.1 f.1)
     (λ f h. (h.place, h.command_fits))
     (both place_spelled command_spelled)
 
+pub skip_spelled : Spelled skip_at (λ f. IsSkip f.0 f.1) (λ f. skip_spelling f.0 f.1)
+skip_spelled = as_facts (λ f. IsSkip f.0 f.1)
+    (λ f h. record { is_id = h.0; range = h.1.0; fits = h.1.1 })
+    (λ f h. (h.is_id, (h.range, h.fits)))
+    (both id_spelled range_spelled)
+
 module _ (bytes after : List ℕ) (k : ℕ) (m : Event) (rest : List ℕ) (fits : IsBytes after) (front : Takes bytes (k ∷ []) after) where
   abbrev case : {A : Type 0} {r : Reading A} {P : A → Type 0} {f : A → List ℕ} (spelled : Spelled r P f) (make : A → Event) (kind : ℕ)
       → ((a : A) → P a → IsEvent (make a)) → ((a : A) → event_spelling (make a) ≡ kind ∷ f a)
@@ -51,7 +58,8 @@ module _ (bytes after : List ℕ) (k : ℕ) (m : Event) (rest : List ℕ) (fits 
       case id_spelled (λ node. Retire node) 6 (λ a h. h) (λ a. refl) _ (
       case id_spelled (λ node. Lapse node) 32 (λ a h. h) (λ a. refl) _ (
       case nothing_spelled (λ _. Snapshot) 33 (λ a h. h) (λ a. refl) _ (
-      λ e. absurd cc))))))))
+      case skip_spelled (λ f. Skip f.0 f.1) 34 (λ a h. h) (λ a. refl) _ (
+      λ e. absurd cc)))))))))
 
 event_again : (m : Event) (rest : List ℕ) → IsEvent m → event_at (event_spelling m ++ rest) ≡ Ok (m, rest)
 unfolding event_at
@@ -63,6 +71,7 @@ event_again (Ask session request command) rest is = rw (asked_spelled.again ((se
 event_again (Retire node) rest is = rw (id_spelled.again node rest is) refl
 event_again (Lapse node) rest is = rw (id_spelled.again node rest is) refl
 event_again Snapshot rest is = refl
+event_again (Skip from posts) rest is = rw (skip_spelled.again (from, posts) rest is) refl
 
 pub event_spelled : Spelled event_at IsEvent event_spelling
 unfolding event_at

@@ -10,6 +10,7 @@ use Rattle.cc_views.specs.Ascending.{IsAscending}
 use Rattle.cc_views.specs.NatSets.{NatSet, from_list, items}
 use Rattle.cc_views.specs.NatLists.{items_ascending, items-from_list, from_list-items}
 use Rattle.cc_changes.specs.ChangeSets.{ChangeSets}
+use Rattle.cc_messages.specs.Ranges.{Range, IsRange}
 use Rattle.cc_views.specs.declared.value.Value.{Value}
 use Rattle.cc_views.specs.declared.row.Row.{Row}
 use Rattle.cc_views.specs.Rows.{ViewMap, entry_of, rows_of}
@@ -19,7 +20,8 @@ use Rattle.cc_views.proofs.Absorbs.{rows_back}
 use Rattle.cc_wire.specs.declared.fault.WireFault.TheVariants.{NotAscending, TooLarge}
 use Rattle.cc_wire.specs.Reading.{Reading, via, byte_at, number_at, limited, number_from, flag_with, flag_at, text_at, numbers_at, number_set_at}
 use Rattle.cc_wire.specs.Reading.{number_list_at, listed_at, value_with, value_at, row_with, row_at, row_list_at, view_with, view_at, id_set_at}
-use Rattle.cc_wire.specs.Reading.{changes_with, changes_at}
+use Rattle.cc_wire.specs.Reading.{changes_with, changes_at, wide_from, range_with, range_at}
+use Rattle.cc_wire.specs.Events.{range_spelling}
 use Rattle.cc_wire.specs.Spelling.{text_spelling, IsText, flag_spelling, number_spelling, number_set_spelling, IsNumberSet, value_spelling, IsValue}
 use Rattle.cc_wire.specs.Spelling.{row_spelling, IsRow, view_spelling, IsView, number_list_spelling, IsNumberList, id_set_spelling, IsId, IsIdSet}
 use Rattle.cc_wire.specs.Spelling.{changes_spelling, IsChanges}
@@ -89,6 +91,23 @@ from_spelled least = tested (λ n. ltb n least) NotAscending (λ n. least ≤ n)
 
 pub id_spelled : Spelled (number_from 1) IsId (to_be_bytes w32)
 id_spelled = as_facts IsId (λ n h. record { positive = h.1; fits = h.0 }) (λ n h. (h.fits, h.positive)) (from_spelled 1)
+
+-- ---- the first and the last of some posts
+
+wide_spelled : (least : ℕ) → Spelled (wide_from least) (λ n. (n < 2 ^ 64) × (least ≤ n)) (to_be_bytes w64)
+unfolding wide_from
+wide_spelled least = tested (λ n. ltb n least) NotAscending (λ n. least ≤ n) (λ n e. ltb-false _ _ e) (λ n le. le-ltb _ _ le) u64_spelled
+
+abbrev range_fields : Range → ℕ × ℕ
+range_fields r = (r.first, r.last)
+
+pub range_spelled : Spelled range_at (λ r. IsRange r × (r.last < 2 ^ 64)) range_spelling
+unfolding range_at
+range_spelled = as_facts (λ r. IsRange r × (r.last < 2 ^ 64))
+    (λ r h. (record { some = h.0.0.1; ascends = h.1 }, h.0.1))
+    (λ r h. (((omega (arith, h.0.ascends, h.1), h.0.some), h.1), h.0.ascends))
+    (as_fields range_with range_fields (λ _. refl) (λ _ _. refl)
+    (tested (λ f. ltb f.1 f.0) NotAscending (λ f. f.0 ≤ f.1) (λ f e. ltb-false _ _ e) (λ f le. le-ltb _ _ le) (both (wide_spelled 1) u64_spelled)))
 
 -- ---- flags
 

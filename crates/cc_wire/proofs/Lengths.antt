@@ -168,3 +168,4 @@ length-event (events.Ask session request c) is = omega (arith, length-asked sess
 length-event (events.Retire node) is = omega arith
 length-event (events.Lapse node) is = omega arith
 length-event events.Snapshot is = omega arith
+length-event (events.Skip from posts) is = omega arith

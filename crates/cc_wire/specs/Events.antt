@@ -4,9 +4,10 @@ use Rattle.std.specs.Int.{w32, w64, to_be_bytes}
 use Rattle.cc_wire.specs.declared.fault.WireFault.TheVariants.{BadKind}
 use Rattle.cc_messages.specs.declared.message.Message.{Message}
 use Rattle.cc_messages.specs.declared.command.Command.{Command}
+use Rattle.cc_messages.specs.Ranges.{Range, IsRange}
 use Rattle.cc_messages.specs.declared.event.Event.{Event}
-use Rattle.cc_messages.specs.declared.event.Event.TheVariants.{Enter, Leave, Deliver, Acked, Ask, Retire, Lapse, Snapshot}
-use Rattle.cc_wire.specs.Reading.{Reading, ◌⊗◌, via, nothing_at, kinded, number_at, number_from}
+use Rattle.cc_messages.specs.declared.event.Event.TheVariants.{Enter, Leave, Deliver, Acked, Ask, Retire, Lapse, Snapshot, Skip}
+use Rattle.cc_wire.specs.Reading.{Reading, ◌⊗◌, via, nothing_at, kinded, number_at, number_from, range_at}
 use Rattle.cc_wire.specs.Spelling.{Spells, IsId}
 use Rattle.cc_wire.specs.Messages.{message_spelling, IsMessage, message_at}
 use Rattle.cc_wire.specs.Commands.{command_spelling, IsCommand, command_at}
@@ -55,6 +56,21 @@ pub record IsAsked (session request : ℕ) (command : Command) : Type 0 where
 abbrev pub asked_at : Reading ((ℕ × ℕ) × Command)
 asked_at = place_at ⊗ command_at
 
+-- a node, and the first and the last of its posts that are for others
+abbrev pub range_spelling : Range → List ℕ
+range_spelling posts = to_be_bytes w64 posts.first ++ to_be_bytes w64 posts.last
+
+abbrev pub skip_spelling : ℕ → Range → List ℕ
+skip_spelling from posts = to_be_bytes w32 from ++ range_spelling posts
+
+pub record IsSkip (from : ℕ) (posts : Range) : Type 0 where
+  pub is_id : IsId from
+  pub range : IsRange posts
+  pub fits : posts.last < 2 ^ 64
+
+abbrev pub skip_at : Reading (ℕ × Range)
+skip_at = number_from 1 ⊗ range_at
+
 abbrev pub event_spelling : Event → List ℕ
 event_spelling Enter = 1 ∷ []
 event_spelling Leave = 2 ∷ []
@@ -64,6 +80,7 @@ event_spelling (Ask session request command) = 5 ∷ asked_spelling session requ
 event_spelling (Retire node) = 6 ∷ to_be_bytes w32 node
 event_spelling (Lapse node) = 32 ∷ to_be_bytes w32 node
 event_spelling Snapshot = 33 ∷ []
+event_spelling (Skip from posts) = 34 ∷ skip_spelling from posts
 
 abbrev pub IsEvent : Event → Type 0
 IsEvent Enter = Unit {0}
@@ -74,6 +91,7 @@ IsEvent (Ask session request command) = IsAsked session request command
 IsEvent (Retire node) = IsId node
 IsEvent (Lapse node) = IsId node
 IsEvent Snapshot = Unit {0}
+IsEvent (Skip from posts) = IsSkip from posts
 
 abbrev pub SpellsEvent : List ℕ → Event → Type 0
 SpellsEvent = Spells IsEvent event_spelling
@@ -88,7 +106,8 @@ event_fields kind =
     else (if kind == 6 then via (λ node. Retire node) (number_from 1)
     else (if kind == 32 then via (λ node. Lapse node) (number_from 1)
     else (if kind == 33 then via (λ _. Snapshot) nothing_at
-    else (λ bytes. Err (BadKind kind)))))))))
+    else (if kind == 34 then via (λ f. Skip f.0 f.1) skip_at
+    else (λ bytes. Err (BadKind kind))))))))))
 
 unfoldable pub event_at : Reading Event
 event_at = kinded event_fields

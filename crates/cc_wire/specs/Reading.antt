@@ -10,6 +10,7 @@ use Rattle.cc_views.specs.Rows.{ViewMap, entries_of}
 use Rattle.cc_changes.specs.ChangeSets.{ChangeSets}
 use Rattle.cc_views.specs.Limits.{known_limit, set_limit, text_limit}
 use Rattle.cc_messages.specs.Limits.{list_limit}
+use Rattle.cc_messages.specs.Ranges.{Range}
 use Rattle.cc_wire.specs.declared.fault.WireFault.{WireFault}
 use Rattle.cc_wire.specs.declared.fault.WireFault.TheVariants.{Short, BadKind, NotAscending, TooLarge, Trailing, NoMemory}
 
@@ -72,6 +73,17 @@ limited limit count bytes = count bytes >>= λ n. if nat_lt limit n.0 then Err T
 -- an id or a number of a list
 unfoldable pub number_from : ℕ → Reading ℕ
 number_from least bytes = number_at w32 bytes >>= λ n. if nat_lt n.0 least then Err NotAscending else Ok n
+
+-- a number of eight bytes that is at least so much
+unfoldable pub wide_from : ℕ → Reading ℕ
+wide_from least bytes = number_at w64 bytes >>= λ n. if nat_lt n.0 least then Err NotAscending else Ok n
+
+abbrev pub range_with : ℕ × ℕ → Range
+range_with f = record { first = f.0; last = f.1 }
+
+-- two numbers that aren't 0, of which the second isn't the lesser one
+unfoldable pub range_at : Reading Range
+range_at = via range_with (λ bytes. (wide_from 1 ⊗ number_at w64) bytes >>= λ f. if nat_lt f.0.1 f.0.0 then Err NotAscending else Ok f)
 
 abbrev pub flag_with : ℕ × List ℕ → Result (Bool × List ℕ) WireFault
 flag_with (zero, rest) = Ok (false, rest)

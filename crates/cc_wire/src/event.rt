@@ -1,12 +1,13 @@
 //! Events as bytes.
 
 ghost use Rattle.std.specs.Prelude.{◌≡◌, ◌≤◌, ◌+◌, ℕ, List, [], ◌++◌, length, IfOk, OnOk, OnErr, IsOk, Ok, vec_len};
+ghost use Rattle.std.specs.Int.{w64, to_be_bytes};
 ghost use Rattle.std.specs.Vec.{vec_capacity};
 ghost use Rattle.cc_wire.specs.Writing.{Writes};
 ghost use Rattle.cc_wire.specs.Reading.{Gives, whole};
 ghost use Rattle.cc_wire.specs.Events.{numbered_spelling, IsNumbered, delivery_spelling, IsDelivery, asked_spelling, IsAsked, place_spelling};
 ghost use Rattle.cc_wire.specs.Events.{IsPlace, event_at, event_fields, numbered_at, delivery_at, place_at, asked_at, event_spelling, IsEvent};
-ghost use Rattle.cc_wire.specs.Events.{SpellsEvent};
+ghost use Rattle.cc_wire.specs.Events.{SpellsEvent, skip_spelling, IsSkip, skip_at};
 
 use crate::changes_bytes::put_id;
 use crate::command::put_command;
@@ -14,7 +15,7 @@ use crate::fault::WireFault;
 use crate::message::{put_message, put_news};
 use crate::reader::Reader;
 use crate::writer::{put_u8, put_u64, settled};
-use cc_messages::{Command, Event, Message};
+use cc_messages::{Command, Event, Message, PostRange};
 use cc_views::{NoMemory, NodeId};
 use std::alloc::{AllocError, Global};
 
@@ -55,6 +56,15 @@ impl<'a> Reader<'a> {
         Ok((place, command))
     }
 
+    /// A node, and the first and the last of its posts that are for others.
+    pub fn skip(&mut self) -> Result<(NodeId, PostRange), WireFault>
+        ensures { Gives (λ x. (x, self.new)) result (skip_at self.old) }
+    {
+        let from = self.id(1)?;
+        let posts = self.range()?;
+        Ok((from, posts))
+    }
+
     // The fields of an event of that kind.
     fn event_fields(&mut self, alloc: Global, kind: u8) -> Result<Event, WireFault>
         ensures { Gives (λ x. (x, self.new)) result (event_fields kind self.old) }
@@ -91,6 +101,10 @@ impl<'a> Reader<'a> {
                 Ok(Event::Lapse { node })
             }
             33 => Ok(Event::Snapshot),
+            34 => {
+                let (from, posts) = self.skip()?;
+                Ok(Event::Skip { from, posts })
+            }
             kind => Err(WireFault::BadKind(kind)),
         }
     }
@@ -150,6 +164,23 @@ pub fn put_asked(
     put_command(out, command)
 }
 
+/// Appends a node, and the first and the last of its posts that are for others. On an `Err` a part may stand at the end.
+pub fn put_skip(out: &mut Vec<u8>, from: NodeId, posts: PostRange) -> Result<(), AllocError>
+    ensures writes { Writes out.old out.new (skip_spelling from posts) result }
+    ensures fits { OnOk result (IsSkip from posts) }
+{
+    put_id(out, from)?;
+    put_ends(out, posts.first(), posts.last())
+}
+
+// Appends the first and the last of some numbers.
+fn put_ends(out: &mut Vec<u8>, first: u64, last: u64) -> Result<(), AllocError>
+    ensures { Writes out.old out.new (to_be_bytes w64 first ++ to_be_bytes w64 last) result }
+{
+    put_u64(out, first)?;
+    put_u64(out, last)
+}
+
 pub(crate) fn put_event(out: &mut Vec<u8>, event: &Event) -> Result<(), AllocError>
     ensures writes { Writes out.old out.new (event_spelling event.now) result }
     ensures fits { OnOk result (IsEvent event.now) }
@@ -180,6 +211,10 @@ pub(crate) fn put_event(out: &mut Vec<u8>, event: &Event) -> Result<(), AllocErr
         Event::Retire { node } => put_news(out, 6, *node),
         Event::Lapse { node } => put_news(out, 32, *node),
         Event::Snapshot => put_u8(out, 33),
+        Event::Skip { from, posts } => {
+            put_u8(out, 34)?;
+            put_skip(out, *from, *posts)
+        }
     }
 }
 

@@ -2,9 +2,10 @@
 
 ghost use Rattle.std.specs.Prelude.{◌≡◌, ◌≤◌, IfOk, length, take};
 ghost use Rattle.std.specs.Int.{w16, w32, w64};
-ghost use Rattle.cc_wire.specs.Reading.{Gives, TakesNoMemory, byte_at, bytes_at, number_at, number_from, flag_at, ended};
+ghost use Rattle.cc_wire.specs.Reading.{Gives, TakesNoMemory, byte_at, bytes_at, number_at, number_from, wide_from, range_at, flag_at, ended};
 
 use crate::fault::WireFault;
+use cc_messages::PostRange;
 use cc_views::NodeId;
 use std::marker::Model;
 
@@ -106,6 +107,28 @@ impl<'a> Reader<'a> {
             return Err(WireFault::NotAscending);
         }
         Ok(number)
+    }
+
+    #[tactic(auto, unfolding(crate::specs::Reading::wide_from))]
+    fn u64_from(&mut self, least: u64) -> Result<u64, WireFault>
+        ensures exact { Gives (λ x. (x, self.new)) result (wide_from least self.old) }
+        ensures least { IfOk result (λ x. least ≤ x) }
+    {
+        let number = self.u64()?;
+        if number < least {
+            return Err(WireFault::NotAscending);
+        }
+        Ok(number)
+    }
+
+    /// The first and the last of some posts, in eight bytes each. NotAscending where the first is 0, or the last is below it.
+    #[tactic(auto, unfolding(crate::specs::Reading::range_at))]
+    pub fn range(&mut self) -> Result<PostRange, WireFault>
+        ensures { Gives (λ x. (x, self.new)) result (range_at self.old) }
+    {
+        let first = self.u64_from(1)?;
+        let last = self.u64()?;
+        PostRange::new(first, last).ok_or(WireFault::NotAscending)
     }
 
     /// A node's id in four bytes, at least `least`. NotAscending where it is below.

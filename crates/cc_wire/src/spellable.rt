@@ -6,10 +6,10 @@ ghost use Rattle.cc_wire.specs.Spelling.{IsText, IsNumberSet, IsValue, IsRow, Is
 ghost use Rattle.cc_wire.specs.Messages.{IsMessage, IsCall};
 ghost use Rattle.cc_wire.specs.Commands.{IsCommand};
 ghost use Rattle.cc_wire.specs.Answers.{IsAnswer};
-ghost use Rattle.cc_wire.specs.Events.{IsEvent, event_spelling, SpellsEvent};
+ghost use Rattle.cc_wire.specs.Events.{IsEvent, IsSkip, event_spelling, SpellsEvent};
 
 use cc_changes::Changes;
-use cc_messages::{Answer, Command, Event, Message};
+use cc_messages::{Answer, Command, Event, Message, PostRange};
 use cc_views::{NodeId, NumberSet, Row, Text, Value, View};
 
 fn number_fits(number: u64)
@@ -166,6 +166,13 @@ pub fn answer_is_spellable(answer: &Answer)
     }
 }
 
+fn skip_is_spellable(from: NodeId, posts: PostRange)
+    ensures { IsSkip from posts }
+{
+    id_is_spellable(from);
+    number_fits(posts.last());
+}
+
 /// Every event has a spelling.
 pub fn event_is_spellable(event: &Event)
     ensures { SpellsEvent (event_spelling event.now) event.now }
@@ -195,5 +202,6 @@ pub fn event_is_spellable(event: &Event)
             command_is_spellable(command);
         }
         Event::Retire { node } | Event::Lapse { node } => id_is_spellable(*node),
+        Event::Skip { from, posts } => skip_is_spellable(*from, *posts),
     }
 }

@@ -144,5 +144,6 @@ pub fn event_len(event: &Event) -> usize
         Event::Acked { .. } => KIND + ID + NUMBER,
         Event::Ask { command, .. } => KIND + NUMBER + NUMBER + command_len(command),
         Event::Retire { .. } | Event::Lapse { .. } => KIND + ID,
+        Event::Skip { .. } => KIND + ID + NUMBER + NUMBER,
     }
 }

@@ -18,7 +18,7 @@ use std::fs;
 use std::process::ExitCode;
 
 // The files of the data folder, without their ending.
-const CHAPTERS: [&str; 19] = [
+const CHAPTERS: [&str; 20] = [
     "clusters",
     "after_a_store",
     "crashes",
@@ -33,6 +33,7 @@ const CHAPTERS: [&str; 19] = [
     "absent_full",
     "anew",
     "snapshots",
+    "skips",
     "rounds",
     "long_rounds",
     "cluster_rounds",

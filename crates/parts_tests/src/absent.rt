@@ -65,7 +65,7 @@ fn kinds_between_are_of_no_message_or_event(rt: HostRuntime) {
         assert!(rt; event_fault(rt.alloc(), &[kind]) == Some(WireFault::BadKind(kind)));
     }
     assert!(rt; message_fault(rt.alloc(), &[33]) == Some(WireFault::BadKind(33)));
-    assert!(rt; event_fault(rt.alloc(), &[34]) == Some(WireFault::BadKind(34)));
+    assert!(rt; event_fault(rt.alloc(), &[35]) == Some(WireFault::BadKind(35)));
 }
 
 #[test]

@@ -37,4 +37,6 @@ mod sets;
 #[cfg(test)]
 mod shown;
 #[cfg(test)]
+mod skips;
+#[cfg(test)]
 mod views;

@@ -14,4 +14,5 @@ mod retirements;
 mod routes;
 mod speakers;
 mod standings;
+mod withheld;
 mod words;

@@ -34,4 +34,6 @@ mod routing;
 #[cfg(test)]
 mod sharing;
 #[cfg(test)]
+mod skipping;
+#[cfg(test)]
 mod vectors;

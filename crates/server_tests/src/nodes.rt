@@ -176,6 +176,7 @@ pub(crate) fn config_of<'a>(
         listen: setting.listen,
         listen_clients: setting.listen_clients,
         remote_operators: setting.remote_operators,
+        answers_to_all: false,
         peers: peers_of(alloc, setting.peers)?,
         peers_file: setting.peers_file,
         status: setting.status,

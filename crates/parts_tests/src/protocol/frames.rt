@@ -3,10 +3,10 @@
 use crate::protocol::bytes::{ASK, SKIPPED, STORED, is_spelled};
 use crate::sets::id;
 use cc_frames::{Frame, decode_frame};
-use cc_messages::{Answer, Command, Event, Message, Refusal};
+use cc_messages::{Answer, Command, Event, Message, PostRange, Refusal};
 use cc_protocol::{
-    Bundle, Objection, Outcome, Parcel, ack_frame, event_of, objection_frame, outcome_of,
-    post_bytes, refused_frame, reply_bytes,
+    Bundle, Due, Objection, Outcome, Parcel, ack_frame, due_bytes, event_of, objection_frame,
+    outcome_of, refused_frame, reply_bytes, skip_bytes,
 };
 use cc_views::NodeId;
 use std::process::Abort;
@@ -23,6 +23,7 @@ enum About {
     Retirement(u32),
     Lapse(u32),
     Snapshot,
+    Skip(u32, u64, u64),
 }
 
 fn about_frame(frame: Frame) -> About {
@@ -49,6 +50,9 @@ fn about_event(event: &Option<Event>) -> About {
         Some(Event::Retire { node }) => About::Retirement(node.number()),
         Some(Event::Lapse { node }) => About::Lapse(node.number()),
         Some(Event::Snapshot) => About::Snapshot,
+        Some(Event::Skip { from, posts }) => {
+            About::Skip(from.number(), posts.first(), posts.last())
+        }
     }
 }
 
@@ -78,11 +82,18 @@ fn posted_join(from: NodeId) -> Frame {
 #[test]
 fn what_a_peer_sends_is_an_event(rt: HostRuntime) {
     let from = id(2);
+    let posts = PostRange::new(5, 7).expect(&rt, "a range");
     let about = [
         about_frame(Frame::Ack { from, number: 9 }),
         about_frame(posted_join(from)),
+        about_frame(Frame::Skip { from, posts }),
     ];
-    assert!(rt; about == [About::Acknowledgement(2, 9), About::Delivery(2, 4)]);
+    let wanted = [
+        About::Acknowledgement(2, 9),
+        About::Delivery(2, 4),
+        About::Skip(2, 5, 7),
+    ];
+    assert!(rt; about == wanted);
 }
 
 #[test]
@@ -99,12 +110,41 @@ const POST: [u8; 30] = [
 // Node 1 has what it was sent up to number 9.
 const ACK: [u8; 17] = [0, 0, 0, 0x0D, 2, 0, 0, 0, 1, 0, 0, 0, 0, 0, 0, 0, 9];
 
-// Whether a message of a node is spelled so, under number 2.
-fn is_posted<R: Abort + AllocGlobal>(rt: &R, me: NodeId, bytes: &[u8]) -> bool {
+// Post 1 of node 1 is for others.
+const SKIP: [u8; 25] = [
+    0, 0, 0, 0x15, 0x20, 0, 0, 0, 1, 0, 0, 0, 0, 0, 0, 0, 1, 0, 0, 0, 0, 0, 0, 0, 1,
+];
+
+// Whether what is due of a message under number 2 is spelled so: first the one and then the other.
+fn is_posted<R: Abort + AllocGlobal>(rt: &R, due: &Due, first: &[u8], then: &[u8]) -> bool {
+    let me = id(1);
     let message = Message::StoreAck { tag: 1, node: me };
-    let posted = post_bytes(rt.alloc(), me, 2, &message).expect(rt, "bytes");
+    let posted = due_bytes(rt.alloc(), me, due, 2, &message).expect(rt, "bytes");
     drop(message);
-    posted.as_slice() == bytes
+    posted.as_slice().strip_prefix(first) == Some(then)
+}
+
+fn is_skipped<R: Abort + AllocGlobal>(rt: &R, posts: PostRange) -> bool {
+    let skipped = skip_bytes(rt.alloc(), id(1), posts).expect(rt, "bytes");
+    skipped.as_slice() == SKIP.as_slice()
+}
+
+fn due(skip: Option<PostRange>, has_post: bool) -> Due {
+    Due { skip, has_post }
+}
+
+// The numbers that are skipped come first.
+#[test]
+fn what_is_due_is_spelled_in_turn(rt: HostRuntime) {
+    let one = PostRange::new(1, 1).expect(&rt, "a range");
+    let are_spelled = [
+        is_posted(&rt, &due(None, false), &[], &[]),
+        is_posted(&rt, &due(None, true), &[], &POST),
+        is_posted(&rt, &due(Some(one), false), &SKIP, &[]),
+        is_posted(&rt, &due(Some(one), true), &SKIP, &POST),
+        is_skipped(&rt, one),
+    ];
+    assert!(rt; are_spelled == [true; 5]);
 }
 
 fn is_replied<R: Abort + AllocGlobal>(rt: &R, bytes: &[u8]) -> bool {
@@ -116,11 +156,10 @@ fn is_replied<R: Abort + AllocGlobal>(rt: &R, bytes: &[u8]) -> bool {
 fn outputs_are_frames_of_their_sender(rt: HostRuntime) {
     let me = id(1);
     let are_spelled = [
-        is_posted(&rt, me, &POST),
         is_spelled(&rt, ack_frame(me, 9), &ACK),
         is_replied(&rt, &STORED),
     ];
-    assert!(rt; are_spelled == [true; 3]);
+    assert!(rt; are_spelled == [true; 2]);
 }
 
 // A post and two acknowledgements are put into a bundle, the post last. What it writes, and how many bytes its posts had.

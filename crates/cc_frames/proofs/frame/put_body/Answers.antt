@@ -33,3 +33,9 @@ returns-in_ok-put_u8-in-RetireIfSilent-clause-writes c =
     subst (λ (f : Frame). Writes c.args.out.now c.put_id-in-RetireIfSilent.new.out (body_spelling f) c.put_id-in-RetireIfSilent.result) (sym c.in-RetireIfSilent.is)
     (writes_then c.args.out.now c.put_u8-in-RetireIfSilent.new.out c.put_id-in-RetireIfSilent.new.out (36 ∷ []) _ c.put_id-in-RetireIfSilent.result
     c.in_ok-put_u8-in-RetireIfSilent.ensures c.put_id-in-RetireIfSilent.ensures.writes)
+
+pub returns-in_ok-put_u8-in-Skip-clause-writes : goal.returns-in_ok-put_u8-in-Skip-clause-writes
+returns-in_ok-put_u8-in-Skip-clause-writes c =
+    subst (λ (f : Frame). Writes c.args.out.now c.put_skip.new.out (body_spelling f) c.put_skip.result) (sym c.in-Skip.is)
+    (writes_then c.args.out.now c.put_u8-in-Skip.new.out c.put_skip.new.out (32 ∷ []) _ c.put_skip.result c.in_ok-put_u8-in-Skip.ensures
+    c.put_skip.ensures.writes)

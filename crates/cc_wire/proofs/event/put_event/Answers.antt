@@ -22,3 +22,9 @@ returns-in_ok-put_u8-in-Ask-clause-writes c =
     subst (λ (e : Event). Writes c.args.out.now c.put_asked.new.out (event_spelling e) c.put_asked.result) (sym c.in-Ask.is)
     (writes_then c.args.out.now c.put_u8-in-Ask.new.out c.put_asked.new.out (5 ∷ []) _ c.put_asked.result c.in_ok-put_u8-in-Ask.ensures
     c.put_asked.ensures.writes)
+
+pub returns-in_ok-put_u8-in-Skip-clause-writes : goal.returns-in_ok-put_u8-in-Skip-clause-writes
+returns-in_ok-put_u8-in-Skip-clause-writes c =
+    subst (λ (e : Event). Writes c.args.out.now c.put_skip.new.out (event_spelling e) c.put_skip.result) (sym c.in-Skip.is)
+    (writes_then c.args.out.now c.put_u8-in-Skip.new.out c.put_skip.new.out (34 ∷ []) _ c.put_skip.result c.in_ok-put_u8-in-Skip.ensures
+    c.put_skip.ensures.writes)

@@ -1,0 +1,82 @@
+//! Who gets an answer to a query, and who is told that it needn't wait for it.
+
+use crate::clients::sent;
+use crate::nodes::{Place, format_member_of, free_place, run, while_one_runs};
+use cc_channels::Stop;
+use cc_intake::NoHooks;
+use std::io::Read;
+use std::net::{Net, SocketAddr, TcpStream};
+use std::process::Abort;
+use std::test::*;
+
+// Node 2 asks what node 1 knows: Query 1 2, its first post.
+const QUERY_OF_2: [u8; 30] = [
+    0, 0, 0, 26, 1, 0, 0, 0, 2, 0, 0, 0, 0, 0, 0, 0, 1, 7, 0, 0, 0, 0, 0, 0, 0, 1, 0, 0, 0, 2,
+];
+
+// The answer, the first post of node 1: QueryReply [] 1 2.
+const REPLY: [u8; 28] = [
+    1, 0, 0, 0, 1, 0, 0, 0, 0, 0, 0, 0, 1, 8, 0, 0, 0, 0, 0, 0, 0, 0, 0, 1, 0, 0, 0, 2,
+];
+
+// The first post of node 1 is for others: Skip 1 1 1.
+const SKIP: [u8; 21] = [
+    32, 0, 0, 0, 1, 0, 0, 0, 0, 0, 0, 0, 1, 0, 0, 0, 0, 0, 0, 0, 1,
+];
+
+// No frame of this test is longer.
+const LONGEST: usize = 64;
+
+const ACK: u8 = 2;
+
+// The next frame that is no acknowledgement, with zeros behind it.
+fn next_frame<R: Abort>(rt: &R, stream: &mut TcpStream) -> [u8; LONGEST] {
+    for _ in 0..100 {
+        let mut length = [0; 4];
+        stream.read_exact(&mut length).expect(rt, "a length");
+        let mut body = [0; LONGEST];
+        let len = u32::from_be_bytes(length) as usize;
+        assert!(rt; len <= LONGEST, "a short frame");
+        stream.read_exact(&mut body[..len]).expect(rt, "a body");
+        if body[0] != ACK {
+            return body;
+        }
+    }
+    panic!(rt; "a frame that is no acknowledgement")
+}
+
+// Node 2 asks, and is answered; node 3 is told that the answer is for others.
+fn ask_as_2<R: Abort + Net<Stream = TcpStream>>(
+    rt: &R,
+    node: SocketAddr,
+    second: &Place,
+    third: &Place,
+) {
+    let (mut to_2, _) = second.listener.accept().expect(rt, "a connection");
+    let (mut to_3, _) = third.listener.accept().expect(rt, "a connection");
+    let _from_2 = sent(rt, node, &QUERY_OF_2);
+    assert!(rt; next_frame(rt, &mut to_2).starts_with(&REPLY));
+    assert!(rt; next_frame(rt, &mut to_3).starts_with(&SKIP));
+}
+
+#[test]
+fn an_answer_goes_to_the_node_that_asked(rt: HostRuntime) {
+    format_member_of(&rt, "skipping-1", "1", "1,2,3", None);
+    let Place {
+        listener,
+        address: node,
+    } = free_place(&rt);
+    let second = free_place(&rt);
+    let third = free_place(&rt);
+    let peers = [(2, second.address), (3, third.address)];
+    let stop = Stop::new();
+    let alloc = rt.alloc();
+    while_one_runs(
+        &rt,
+        &stop,
+        node,
+        || run(&rt, alloc, "skipping-1", listener, &peers, &stop, &NoHooks),
+        || ask_as_2(&rt, node, &second, &third),
+    );
+    drop((second, third));
+}
