@@ -229,7 +229,7 @@ impl Asking {
                 Ok(Told::done())
             }
             Some(Ended::InUse) => {
-                print_use(alloc, order.form, output)?;
+                print_use(order.form, output)?;
                 Ok(Told::refused(Some(Advice::SessionInUse(order.session))))
             }
             Some(Ended::Refused(why)) => self.print_why(alloc, order, Some(why), output),
@@ -251,7 +251,7 @@ impl Asking {
                 Ok(Told::refused(advice_for(why)))
             }
             None => {
-                print_silence(alloc, order.form, output)?;
+                print_silence(order.form, output)?;
                 Ok(Told::silent(self.silence))
             }
         }

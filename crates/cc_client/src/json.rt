@@ -19,15 +19,31 @@ impl Serialize for Digits {
     }
 }
 
-// An answer, under the name that `play` prints.
+// An answer, under the name that `play` prints, and what it carries.
 #[derive(Clone, Copy, Serialize)]
-#[serde(tag = "answer")]
-enum JsonAnswer<'a> {
-    Stored,
-    Seen { view: &'a [JsonRow<'a>] },
-    Max { max: Digits },
-    Flag { flag: bool },
-    Set { set: &'a [u32] },
+struct JsonAnswer<'a> {
+    answer: &'static str,
+    #[serde(skip_serializing_if = "Option::is_none")]
+    view: Option<&'a [JsonRow<'a>]>,
+    #[serde(skip_serializing_if = "Option::is_none")]
+    max: Option<Digits>,
+    #[serde(skip_serializing_if = "Option::is_none")]
+    flag: Option<bool>,
+    #[serde(skip_serializing_if = "Option::is_none")]
+    set: Option<&'a [u32]>,
+}
+
+impl JsonAnswer<'_> {
+    // One that carries nothing.
+    fn named(answer: &'static str) -> Self {
+        JsonAnswer {
+            answer,
+            view: None,
+            max: None,
+            flag: None,
+            set: None,
+        }
+    }
 }
 
 // What a node stored last. Its text stands as it is where it is UTF-8, else in Base64.
@@ -52,33 +68,34 @@ struct JsonRefusal<'a> {
     carries: Digits,
 }
 
-#[derive(Clone, Copy, Serialize)]
-struct JsonInUse {
-    session_in_use: bool,
-}
-
-#[derive(Clone, Copy, Serialize)]
-struct JsonSilence {
-    no_answer: bool,
-}
-
 /// An answer as JSON. The only error is a refused growth.
 pub fn json_of_answer(alloc: Global, answer: &Answer) -> io::Result<String> {
-    match answer {
-        Answer::Stored => written(alloc, &JsonAnswer::Stored),
-        Answer::Seen(view) => json_of_view(alloc, view),
-        Answer::Max(max) => written(alloc, &JsonAnswer::Max { max: Digits(*max) }),
-        Answer::Flag(flag) => written(alloc, &JsonAnswer::Flag { flag: *flag }),
-        Answer::Set(numbers) => {
-            let set = numbers.as_slice();
-            written(alloc, &JsonAnswer::Set { set })
-        }
-    }
+    let json = match answer {
+        Answer::Stored => JsonAnswer::named("Stored"),
+        Answer::Seen(view) => return json_of_view(alloc, view),
+        Answer::Max(max) => JsonAnswer {
+            max: Some(Digits(*max)),
+            ..JsonAnswer::named("Max")
+        },
+        Answer::Flag(flag) => JsonAnswer {
+            flag: Some(*flag),
+            ..JsonAnswer::named("Flag")
+        },
+        Answer::Set(numbers) => JsonAnswer {
+            set: Some(numbers.as_slice()),
+            ..JsonAnswer::named("Set")
+        },
+    };
+    written(alloc, &json)
 }
 
 fn json_of_view(alloc: Global, view: &View) -> io::Result<String> {
     let rows = json_rows(alloc, view.rows())?;
-    let json = written(alloc, &JsonAnswer::Seen { view: &rows });
+    let answer = JsonAnswer {
+        view: Some(rows.as_slice()),
+        ..JsonAnswer::named("Seen")
+    };
+    let json = written(alloc, &answer);
     drop(rows);
     json
 }
@@ -132,21 +149,6 @@ pub fn json_of_refusal(alloc: Global, why: Refusal) -> io::Result<String> {
     let json = written(alloc, &refusal);
     drop(printed);
     json
-}
-
-/// What is printed as JSON where another client uses the session. The only error is a refused growth.
-pub fn json_of_use(alloc: Global) -> io::Result<String> {
-    written(
-        alloc,
-        &JsonInUse {
-            session_in_use: true,
-        },
-    )
-}
-
-/// What is printed as JSON where no answer came. The only error is a refused growth.
-pub fn json_of_silence(alloc: Global) -> io::Result<String> {
-    written(alloc, &JsonSilence { no_answer: true })
 }
 
 fn written<T: Serialize>(alloc: Global, value: &T) -> io::Result<String> {

@@ -1,6 +1,6 @@
 //! What a client prints.
 
-use crate::json::{json_of_answer, json_of_refusal, json_of_silence, json_of_use};
+use crate::json::{json_of_answer, json_of_refusal};
 use cc_messages::{Answer, Refusal};
 use cc_orders::AnswerForm;
 use cc_texts::{HarmlessJson, PrintedAnswer};
@@ -19,7 +19,9 @@ pub fn print_answer<W: Write>(
         AnswerForm::Plain => writeln!(output, "{}", PrintedAnswer(answer))?,
         AnswerForm::Json => {
             let json = json_of_answer(alloc, answer)?;
-            writeln!(output, "{}", HarmlessJson(json.as_str()))?;
+            let printed = writeln!(output, "{}", HarmlessJson(json.as_str()));
+            drop(json);
+            printed?;
         }
     }
     output.flush()
@@ -34,25 +36,35 @@ pub fn print_refusal<W: Write>(
 ) -> io::Result<()> {
     match form {
         AnswerForm::Plain => writeln!(output, "refused {why}")?,
-        AnswerForm::Json => writeln!(output, "{}", json_of_refusal(alloc, why)?)?,
+        AnswerForm::Json => {
+            let json = json_of_refusal(alloc, why)?;
+            let printed = writeln!(output, "{json}");
+            drop(json);
+            printed?;
+        }
     }
     output.flush()
 }
 
 /// Prints that another client uses the session.
-pub fn print_use<W: Write>(alloc: Global, form: AnswerForm, output: &mut W) -> io::Result<()> {
-    match form {
-        AnswerForm::Plain => writeln!(output, "session in use")?,
-        AnswerForm::Json => writeln!(output, "{}", json_of_use(alloc)?)?,
-    }
-    output.flush()
+pub fn print_use<W: Write>(form: AnswerForm, output: &mut W) -> io::Result<()> {
+    let line = match form {
+        AnswerForm::Plain => "session in use",
+        AnswerForm::Json => "{\"session_in_use\":true}",
+    };
+    print_line(line, output)
 }
 
 /// Prints that no answer came in time.
-pub fn print_silence<W: Write>(alloc: Global, form: AnswerForm, output: &mut W) -> io::Result<()> {
-    match form {
-        AnswerForm::Plain => writeln!(output, "no answer")?,
-        AnswerForm::Json => writeln!(output, "{}", json_of_silence(alloc)?)?,
-    }
+pub fn print_silence<W: Write>(form: AnswerForm, output: &mut W) -> io::Result<()> {
+    let line = match form {
+        AnswerForm::Plain => "no answer",
+        AnswerForm::Json => "{\"no_answer\":true}",
+    };
+    print_line(line, output)
+}
+
+fn print_line<W: Write>(line: &str, output: &mut W) -> io::Result<()> {
+    writeln!(output, "{line}")?;
     output.flush()
 }

@@ -4,7 +4,7 @@ use crate::latencies::Latencies;
 use crate::tally::Tally;
 use cc_messages::Refusal;
 use cc_orders::LoadOrder;
-use serde::Serialize;
+use serde::{Described, Serialize, Serializer};
 use std::alloc::{AllocError, Global};
 use std::fmt;
 
@@ -15,7 +15,7 @@ const WIDEST: u64 = 40;
 #[derive(Drop, Serialize)]
 pub struct Report {
     /// `store` or `collect`.
-    pub operation: String,
+    pub operation: &'static str,
     pub clients: u64,
     /// How many operations were answered, in which time, and how many a second.
     pub answered: u64,
@@ -32,9 +32,21 @@ pub struct Report {
     pub lost: u64,
     /// How many clients ended before the time was over, and why one of them was refused.
     pub ended: u64,
-    pub refused: Option<String>,
+    pub refused: Option<Why>,
     /// How many of them found that another client uses their session.
     pub in_use: u64,
+}
+
+/// Why a client was refused: the refusal's number and name, and what it carries.
+#[derive(Clone, Copy)]
+pub struct Why(pub Refusal);
+
+impl Described for Why {}
+
+impl Serialize for Why {
+    fn serialize<S: Serializer>(&self, out: &mut S) -> Result<(), S::Error> {
+        out.collect_str(&self.0)
+    }
 }
 
 /// How many operations took up to so many microseconds, and more than half of that.
@@ -54,17 +66,9 @@ impl Report {
     ) -> Result<Self, AllocError> {
         let latencies = &tally.latencies;
         let answered = latencies.count();
-        let operation = String::from_str(alloc, order.operation.name())?;
-        let Ok(refused) = told(alloc, tally.refusal) else {
-            drop(operation);
-            return Err(AllocError);
-        };
-        let Ok(buckets) = buckets_of(alloc, latencies) else {
-            drop((operation, refused));
-            return Err(AllocError);
-        };
+        let buckets = buckets_of(alloc, latencies)?;
         Ok(Report {
-            operation,
+            operation: order.operation.name(),
             clients: order.clients,
             answered,
             elapsed_us,
@@ -76,7 +80,7 @@ impl Report {
             again: tally.again,
             lost: tally.lost,
             ended: tally.ended,
-            refused,
+            refused: tally.refusal.map(Why),
             in_use: tally.in_use,
         })
     }
@@ -90,13 +94,6 @@ impl Report {
     }
 }
 
-fn told(alloc: Global, refusal: Option<Refusal>) -> Result<Option<String>, AllocError> {
-    match refusal {
-        Some(why) => Ok(Some(format!(in alloc; "{why}")?)),
-        None => Ok(None),
-    }
-}
-
 fn per_second(answered: u64, elapsed_us: u64) -> u64 {
     let rate = u128::from(answered) * 1_000_000 / u128::from(elapsed_us.max(1));
     u64::try_from(rate).unwrap_or(u64::MAX)
@@ -104,8 +101,18 @@ fn per_second(answered: u64, elapsed_us: u64) -> u64 {
 
 // A bucket for each power of two, from the first in which there is one to the last.
 fn buckets_of(alloc: Global, latencies: &Latencies) -> Result<Vec<Bucket>, AllocError> {
-    let all = latencies.count();
     let mut buckets = Vec::new(alloc);
+    match push_buckets(&mut buckets, latencies) {
+        Ok(()) => Ok(buckets),
+        Err(AllocError) => {
+            drop(buckets);
+            Err(AllocError)
+        }
+    }
+}
+
+fn push_buckets(buckets: &mut Vec<Bucket>, latencies: &Latencies) -> Result<(), AllocError> {
+    let all = latencies.count();
     let mut up_to_us: u64 = 1;
     let mut before: u64 = 0;
     for _ in 0..64 {
@@ -117,7 +124,7 @@ fn buckets_of(alloc: Global, latencies: &Latencies) -> Result<Vec<Bucket>, Alloc
         before = within;
         up_to_us = up_to_us.saturating_mul(2);
     }
-    Ok(buckets)
+    Ok(())
 }
 
 impl fmt::Display for Report {
@@ -132,7 +139,7 @@ impl fmt::Display for Report {
 }
 
 fn print_rate<W: fmt::Write>(f: &mut fmt::Formatter<W>, report: &Report) -> fmt::Result {
-    let (answered, operation) = (report.answered, report.operation.as_str());
+    let (answered, operation) = (report.answered, report.operation);
     let (rate, clients) = (report.per_second, report.clients);
     let millis = report.elapsed_us / 1000;
     let (seconds, rest) = (millis / 1000, millis % 1000);
@@ -189,12 +196,8 @@ fn print_troubles<W: fmt::Write>(f: &mut fmt::Formatter<W>, report: &Report) -> 
     if lost > 0 {
         writeln!(f, "lost      {lost} connections")?;
     }
-    match &report.refused {
-        Some(why) => writeln!(
-            f,
-            "ended     {ended} clients early, refused {}",
-            why.as_str()
-        )?,
+    match report.refused {
+        Some(Why(why)) => writeln!(f, "ended     {ended} clients early, refused {why}")?,
         None if ended > 0 => writeln!(f, "ended     {ended} clients early")?,
         None => {}
     }

@@ -176,26 +176,91 @@ impl<'a> Status<'a> {
             value,
             &["id", "now", "waiting", "session_limit"],
         )?;
+        let texts = Texts::in_status(value)?;
+        let lists = Lists::in_status(value)?;
+        let parts = Parts::in_status(value)?;
         Some(Status {
             id,
-            version: text(value, "version")?,
+            version: texts.version,
             now,
-            standing: text(value, "standing")?,
+            standing: texts.standing,
             is_ready: flag(value, "is_ready")?,
-            reason: text(value, "reason")?,
-            quorum: QuorumPart::in_status(value)?,
-            members: number_list(value, "members")?,
-            left: number_list(value, "left")?,
-            view: rows_in(value)?,
+            reason: texts.reason,
+            quorum: parts.quorum,
+            members: lists.members,
+            left: lists.left,
+            view: lists.view,
             round: round_in(value)?,
             waiting,
-            sessions: list(value, "sessions")?,
+            sessions: lists.sessions,
             session_limit,
-            posts: PostPart::in_status(value)?,
-            peers: peers_in(value)?,
-            disk: DiskPart::in_status(value)?,
-            counts: CountPart::in_status(value)?,
-            syncs: SyncPart::in_status(value)?,
+            posts: parts.posts,
+            peers: lists.peers,
+            disk: parts.disk,
+            counts: parts.counts,
+            syncs: parts.syncs,
+        })
+    }
+}
+
+// The texts of a status.
+#[derive(Clone, Copy)]
+struct Texts<'a> {
+    version: &'a str,
+    standing: &'a str,
+    reason: &'a str,
+}
+
+impl<'a> Texts<'a> {
+    fn in_status(status: &'a Value) -> Option<Self> {
+        Some(Texts {
+            version: text(status, "version")?,
+            standing: text(status, "standing")?,
+            reason: text(status, "reason")?,
+        })
+    }
+}
+
+// The lists of a status.
+#[derive(Clone, Copy)]
+struct Lists<'a> {
+    members: &'a [Value],
+    left: &'a [Value],
+    view: &'a [Value],
+    sessions: &'a [Value],
+    peers: &'a [Value],
+}
+
+impl<'a> Lists<'a> {
+    fn in_status(status: &'a Value) -> Option<Self> {
+        Some(Lists {
+            members: number_list(status, "members")?,
+            left: number_list(status, "left")?,
+            view: rows_in(status)?,
+            sessions: list(status, "sessions")?,
+            peers: peers_in(status)?,
+        })
+    }
+}
+
+// The parts that each status has, each with members of its own.
+#[derive(Clone, Copy)]
+struct Parts<'a> {
+    quorum: QuorumPart<'a>,
+    posts: PostPart,
+    disk: DiskPart<'a>,
+    counts: CountPart<'a>,
+    syncs: SyncPart,
+}
+
+impl<'a> Parts<'a> {
+    fn in_status(status: &'a Value) -> Option<Self> {
+        Some(Parts {
+            quorum: QuorumPart::in_status(status)?,
+            posts: PostPart::in_status(status)?,
+            disk: DiskPart::in_status(status)?,
+            counts: CountPart::in_status(status)?,
+            syncs: SyncPart::in_status(status)?,
         })
     }
 }

@@ -1,7 +1,7 @@
 //! A node's status as a table.
 
 use crate::status::{
-    CountPart, PeerPart, QuorumPart, RoundPart, RowPart, RowText, SkipPart, Status, number_of,
+    CountPart, PeerPart, RoundPart, RowPart, RowText, SkipPart, Status, number_of,
 };
 use cc_texts::{Harmless, Quoted};
 use serde_json::{Map, Value};
@@ -16,12 +16,7 @@ impl fmt::Display for Table<'_> {
     fn fmt<W: fmt::Write>(&self, f: &mut fmt::Formatter<W>) -> fmt::Result {
         let status = &self.0;
         print_node(f, status)?;
-        print_quorum(f, &status.quorum)?;
-        write!(f, "members   ")?;
-        print_numbers(f, status.members)?;
-        write!(f, "\nleft      ")?;
-        print_numbers(f, status.left)?;
-        writeln!(f, "")?;
+        print_members(f, status)?;
         print_round(f, status)?;
         print_use(f, status)?;
         print_counts(f, &status.counts)?;
@@ -31,42 +26,71 @@ impl fmt::Display for Table<'_> {
     }
 }
 
-fn print_node<W: fmt::Write>(f: &mut fmt::Formatter<W>, status: &Status<'_>) -> fmt::Result {
-    let (id, version) = (status.id, Harmless(status.version));
-    let (standing, reason) = (Harmless(status.standing), Harmless(status.reason));
-    writeln!(f, "node      {id}, version {version}")?;
-    writeln!(f, "standing  {standing}")?;
-    if status.is_ready {
-        writeln!(f, "ready     yes")
-    } else {
-        writeln!(f, "ready     no: {reason}")
+// The numbers of a list, and `none` where there are none.
+#[derive(Clone, Copy)]
+struct Numbers<'a>(&'a [Value]);
+
+impl fmt::Display for Numbers<'_> {
+    fn fmt<W: fmt::Write>(&self, f: &mut fmt::Formatter<W>) -> fmt::Result {
+        for (i, number) in self.0.iter().enumerate() {
+            let (number, between) = (Number(number), if i > 0 { "," } else { "" });
+            write!(f, "{between}{number}")?;
+        }
+        f.write_str(if self.0.is_empty() { "none" } else { "" })
     }
 }
 
-fn print_quorum<W: fmt::Write>(f: &mut fmt::Formatter<W>, quorum: &QuorumPart<'_>) -> fmt::Result {
-    let (need, members, away) = (quorum.need, quorum.members, quorum.may_be_away);
-    let (beta, gamma) = (Harmless(quorum.beta), Harmless(quorum.gamma));
+// Each name with its number, and `none` where there are none.
+#[derive(Clone, Copy)]
+struct Named<'a>(&'a Map<String, Value>);
+
+impl fmt::Display for Named<'_> {
+    fn fmt<W: fmt::Write>(&self, f: &mut fmt::Formatter<W>) -> fmt::Result {
+        for (i, (name, number)) in self.0.iter().enumerate() {
+            let (name, number) = (Harmless(name.as_str()), Number(number));
+            let between = if i > 0 { ", " } else { "" };
+            write!(f, "{between}{name} {number}")?;
+        }
+        f.write_str(if self.0.is_empty() { "none" } else { "" })
+    }
+}
+
+// Nothing where it is no number.
+#[derive(Clone, Copy)]
+struct Number<'a>(&'a Value);
+
+impl fmt::Display for Number<'_> {
+    fn fmt<W: fmt::Write>(&self, f: &mut fmt::Formatter<W>) -> fmt::Result {
+        match number_of(self.0) {
+            Some(number) => write!(f, "{number}"),
+            None => Ok(()),
+        }
+    }
+}
+
+fn print_node<W: fmt::Write>(f: &mut fmt::Formatter<W>, status: &Status<'_>) -> fmt::Result {
+    let (id, version) = (status.id, Harmless(status.version));
+    let standing = Harmless(status.standing);
+    let (ready, reason) = match status.is_ready {
+        true => ("yes", ""),
+        false => ("no: ", status.reason),
+    };
+    let reason = Harmless(reason);
     writeln!(
         f,
-        "quorum    {need} of {members} members, {away} may be away, beta {beta}, gamma {gamma}"
+        "node      {id}, version {version}\nstanding  {standing}\nready     {ready}{reason}"
     )
 }
 
-fn print_numbers<W: fmt::Write>(f: &mut fmt::Formatter<W>, numbers: &[Value]) -> fmt::Result {
-    for (i, number) in numbers.iter().enumerate() {
-        if i > 0 {
-            write!(f, ",")?;
-        }
-        print_number(f, number)?;
-    }
-    write!(f, "{}", if numbers.is_empty() { "none" } else { "" })
-}
-
-fn print_number<W: fmt::Write>(f: &mut fmt::Formatter<W>, value: &Value) -> fmt::Result {
-    match number_of(value) {
-        Some(number) => write!(f, "{number}"),
-        None => Ok(()),
-    }
+fn print_members<W: fmt::Write>(f: &mut fmt::Formatter<W>, status: &Status<'_>) -> fmt::Result {
+    let quorum = &status.quorum;
+    let (need, count, away) = (quorum.need, quorum.members, quorum.may_be_away);
+    let (beta, gamma) = (Harmless(quorum.beta), Harmless(quorum.gamma));
+    let (members, left) = (Numbers(status.members), Numbers(status.left));
+    writeln!(
+        f,
+        "quorum    {need} of {count} members, {away} may be away, beta {beta}, gamma {gamma}\nmembers   {members}\nleft      {left}"
+    )
 }
 
 fn print_round<W: fmt::Write>(f: &mut fmt::Formatter<W>, status: &Status<'_>) -> fmt::Result {
@@ -96,8 +120,10 @@ fn print_pending<W: fmt::Write>(
 fn print_use<W: fmt::Write>(f: &mut fmt::Formatter<W>, status: &Status<'_>) -> fmt::Result {
     let (used, limit) = (status.sessions.len(), status.session_limit);
     let (kept, most, made) = (status.posts.kept, status.posts.limit, status.posts.made);
-    writeln!(f, "sessions  {used} of {limit}")?;
-    writeln!(f, "posts     {kept} of {most} kept, {made} made")
+    writeln!(
+        f,
+        "sessions  {used} of {limit}\nposts     {kept} of {most} kept, {made} made"
+    )
 }
 
 fn print_counts<W: fmt::Write>(f: &mut fmt::Formatter<W>, counts: &CountPart<'_>) -> fmt::Result {
@@ -119,23 +145,8 @@ fn print_counts<W: fmt::Write>(f: &mut fmt::Formatter<W>, counts: &CountPart<'_>
             "skips     {withheld} posts withheld, {sent} skips sent, {heard} heard"
         )?;
     }
-    write!(f, "asked     ")?;
-    print_named(f, counts.asks)?;
-    write!(f, "refused   ")?;
-    print_named(f, counts.refusals)
-}
-
-// Each name with its number.
-fn print_named<W: fmt::Write>(
-    f: &mut fmt::Formatter<W>,
-    named: &Map<String, Value>,
-) -> fmt::Result {
-    for (i, (name, number)) in named.iter().enumerate() {
-        let (name, between) = (Harmless(name.as_str()), if i > 0 { ", " } else { "" });
-        write!(f, "{between}{name} ")?;
-        print_number(f, number)?;
-    }
-    writeln!(f, "{}", if named.is_empty() { "none" } else { "" })
+    let (asked, refused) = (Named(counts.asks), Named(counts.refusals));
+    writeln!(f, "asked     {asked}\nrefused   {refused}")
 }
 
 fn print_disk<W: fmt::Write>(f: &mut fmt::Formatter<W>, status: &Status<'_>) -> fmt::Result {
@@ -147,11 +158,7 @@ fn print_disk<W: fmt::Write>(f: &mut fmt::Formatter<W>, status: &Status<'_>) -> 
     let (most, worst) = (syncs.p99_us, syncs.worst_us);
     writeln!(
         f,
-        "disk      side {side}, generation {generation}, {bytes} bytes, {records} records, {events} events"
-    )?;
-    writeln!(
-        f,
-        "syncs     {count}, mean {mean} us, p50 {half} us, p99 {most} us, worst {worst} us"
+        "disk      side {side}, generation {generation}, {bytes} bytes, {records} records, {events} events\nsyncs     {count}, mean {mean} us, p50 {half} us, p99 {most} us, worst {worst} us"
     )
 }
 
@@ -170,11 +177,12 @@ fn print_peer<W: fmt::Write>(
     now: u64,
 ) -> fmt::Result {
     let id = peer.id;
-    write!(f, "peer      {id}")?;
-    match peer.address {
-        Some(address) => write!(f, " at {}", Harmless(address))?,
-        None => write!(f, " without an address")?,
-    }
+    let (at, address) = match peer.address {
+        Some(address) => (" at ", address),
+        None => (" without an address", ""),
+    };
+    let address = Harmless(address);
+    write!(f, "peer      {id}{at}{address}")?;
     print_contact(f, peer, now)?;
     let (behind, acknowledged, heard) = (peer.behind, peer.acknowledged, peer.heard);
     writeln!(
@@ -209,14 +217,15 @@ fn print_rows<W: fmt::Write>(f: &mut fmt::Formatter<W>, rows: &[Value]) -> fmt::
 fn print_row<W: fmt::Write>(f: &mut fmt::Formatter<W>, row: &RowPart<'_>) -> fmt::Result {
     let (node, number, max) = (row.node, row.number, row.max);
     let flag = if row.flag { "yes" } else { "no" };
-    write!(f, "row       {node}, number {number}, text ")?;
-    match row.text {
-        RowText::Plain(text) => write!(f, "{}", Quoted(text))?,
-        RowText::Base64(text) => write!(f, "base64 {}", Quoted(text))?,
-    }
-    write!(f, ", max {max}, flag {flag}, set ")?;
-    print_numbers(f, row.set)?;
-    writeln!(f, "")
+    let (base, text) = match row.text {
+        RowText::Plain(text) => ("", text),
+        RowText::Base64(text) => ("base64 ", text),
+    };
+    let (text, set) = (Quoted(text), Numbers(row.set));
+    writeln!(
+        f,
+        "row       {node}, number {number}, text {base}{text}, max {max}, flag {flag}, set {set}"
+    )
 }
 
 // How many whole seconds lie between two moments, 0 where the clock went back.

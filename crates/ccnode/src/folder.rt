@@ -84,7 +84,9 @@ pub fn print_trouble<R: Files<File = File> + AllocGlobal + Eprint>(
 ) -> anyhow::Result<bool> {
     match Trouble::at(rt, rt.alloc(), folder)? {
         Some(trouble) => {
-            eprintln!(rt; "ccnode: {trouble}")?;
+            let printed = eprintln!(rt; "ccnode: {trouble}");
+            drop(trouble);
+            printed?;
             Ok(true)
         }
         None => Ok(false),

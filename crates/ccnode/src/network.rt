@@ -34,7 +34,9 @@ pub fn ask(rt: &HostRuntime, words: &AskWords<'_>) -> anyhow::Result<ExitCode> {
 fn end_silent(rt: &HostRuntime, told: Told, page: &SocketAddr) -> anyhow::Result<ExitCode> {
     match reason_at(rt, rt.alloc(), page) {
         Some(reason) => {
-            eprintln!(rt; "ccnode: {}", Harmless(reason.as_str()))?;
+            let printed = eprintln!(rt; "ccnode: {}", Harmless(reason.as_str()));
+            drop(reason);
+            printed?;
             Ok(ExitCode::from(told.status))
         }
         None => end(rt, told),
@@ -70,7 +72,11 @@ pub fn retire(rt: &HostRuntime, words: &RetireWords<'_>) -> anyhow::Result<ExitC
     let order = RetireOrder::parse(rt.alloc(), words, lines.as_deref());
     drop(lines);
     match order {
-        Ok(order) => retire_at_all(rt, &order),
+        Ok(order) => {
+            let status = retire_at_all(rt, &order);
+            drop(order);
+            status
+        }
         Err(fault) => print_retire_fault(rt, fault, words.peers_file),
     }
 }
