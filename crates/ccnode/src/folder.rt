@@ -84,9 +84,7 @@ pub fn print_trouble<R: Files<File = File> + AllocGlobal + Eprint>(
 ) -> anyhow::Result<bool> {
     match Trouble::at(rt, rt.alloc(), folder)? {
         Some(trouble) => {
-            let printed = eprintln!(rt; "ccnode: {trouble}");
-            drop(trouble);
-            printed?;
+            eprintln!(rt; "ccnode: {trouble}")?;
             Ok(true)
         }
         None => Ok(false),

@@ -30,20 +30,20 @@ impl Lines {
     where
         R: Threads + Wait + Eprint + Copy + Send + Drop + 'static,
     {
+        let (to, from) = bounded(alloc, ROOM)?;
+        let (done, written) = bounded(alloc, 1)?;
         let dropped = Arc::new(alloc, AtomicU64::new(0)).or(Err(AllocError))?;
         let counted = Arc::try_clone(&dropped)?;
-        match start_writer(rt, alloc, counted) {
-            Ok((to, written)) => Ok(Lines {
-                alloc,
-                to,
-                written,
-                dropped,
-            }),
-            Err(AllocError) => {
-                drop(dropped);
-                Err(AllocError)
-            }
-        }
+        let machine = *rt;
+        thread::spawn(rt, move || write_lines(&machine, &from, &done, &counted)).or(Err(
+            AllocError,
+        ))?;
+        Ok(Lines {
+            alloc,
+            to,
+            written,
+            dropped,
+        })
     }
 
     /// Puts a line behind those that wait.
@@ -62,33 +62,6 @@ impl Lines {
         let patience = Duration::from_millis(END_MS);
         if self.to.send_timeout(rt, None, patience).is_ok() {
             let _ = self.written.recv_timeout(rt, patience);
-        }
-    }
-}
-
-// Starts the thread: where lines are put for it, and where it tells that all are written.
-fn start_writer<R>(
-    rt: &R,
-    alloc: Global,
-    dropped: Arc<AtomicU64>,
-) -> Result<(Sender<Option<String>>, Receiver<()>), AllocError>
-where
-    R: Threads + Wait + Eprint + Copy + Send + Drop + 'static,
-{
-    let Ok((done, written)) = bounded(alloc, 1) else {
-        drop(dropped);
-        return Err(AllocError);
-    };
-    let Ok((to, from)) = bounded(alloc, ROOM) else {
-        drop((dropped, done, written));
-        return Err(AllocError);
-    };
-    let machine = *rt;
-    match thread::spawn(rt, move || write_lines(&machine, &from, &done, &dropped)) {
-        Ok(_) => Ok((to, written)),
-        Err(_) => {
-            drop((to, written));
-            Err(AllocError)
         }
     }
 }

@@ -34,23 +34,21 @@ fn main(rt: HostRuntime) -> anyhow::Result<ExitCode> {
     let stand_ins = StandIns::open(&rt)?;
     let words: Vec<String> = std::env::args(&rt)?.collect(rt.alloc())?;
     let status = match parse(rt.alloc(), &words) {
-        Ok(Order::Run { folder, words }) => match Lines::start(&rt, rt.alloc()) {
-            Ok(lines) => {
-                let has_times = !is_for_journal(&rt);
-                let machine = NotingRuntime::new(&rt, &lines, level_of(&words), has_times);
-                let status = run(&rt, &machine, folder, &words);
-                drop(machine);
-                lines.end(&rt);
-                drop(lines);
-                status
-            }
-            Err(error) => Err(error.into()),
-        },
+        Ok(Order::Run { folder, words }) => {
+            let lines = Lines::start(&rt, rt.alloc())?;
+            let has_times = !is_for_journal(&rt);
+            let machine = NotingRuntime::new(&rt, &lines, level_of(&words), has_times);
+            let status = run(&rt, &machine, folder, &words);
+            drop(machine);
+            lines.end(&rt);
+            drop(lines);
+            status
+        }
         Ok(Order::Load(words)) => load(&rt, &words),
         Ok(order) => obey(&rt, order),
         Err(error) => print_error(&rt, &error),
     };
-    drop((words, stand_ins));
+    drop(stand_ins);
     status
 }
 

@@ -34,9 +34,7 @@ pub fn ask(rt: &HostRuntime, words: &AskWords<'_>) -> anyhow::Result<ExitCode> {
 fn end_silent(rt: &HostRuntime, told: Told, page: &SocketAddr) -> anyhow::Result<ExitCode> {
     match reason_at(rt, rt.alloc(), page) {
         Some(reason) => {
-            let printed = eprintln!(rt; "ccnode: {}", Harmless(reason.as_str()));
-            drop(reason);
-            printed?;
+            eprintln!(rt; "ccnode: {}", Harmless(reason.as_str()))?;
             Ok(ExitCode::from(told.status))
         }
         None => end(rt, told),
@@ -72,11 +70,7 @@ pub fn retire(rt: &HostRuntime, words: &RetireWords<'_>) -> anyhow::Result<ExitC
     let order = RetireOrder::parse(rt.alloc(), words, lines.as_deref());
     drop(lines);
     match order {
-        Ok(order) => {
-            let status = retire_at_all(rt, &order);
-            drop(order);
-            status
-        }
+        Ok(order) => retire_at_all(rt, &order),
         Err(fault) => print_retire_fault(rt, fault, words.peers_file),
     }
 }

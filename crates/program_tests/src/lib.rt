@@ -1,9 +1,6 @@
-//! What of programs isn't a script and what it prints: words, folders, faults, and random scripts. Scripts are played by
-//! `golden_files`.
+//! What of programs isn't a script and what it prints: words, folders and faults. Scripts are played by `golden_files`.
 #![tactic(auto)]
 
-#[cfg(test)]
-mod collects;
 #[cfg(test)]
 mod disks;
 #[cfg(test)]

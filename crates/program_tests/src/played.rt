@@ -14,20 +14,6 @@ pub fn play_between(
     play(alloc, script, output)
 }
 
-/// Plays a script: the status that it ends with, and what it prints.
-pub fn played<R: Abort + AllocGlobal>(rt: &R, script: &str) -> (u8, String) {
-    let mut script = Script {
-        bytes: script.as_bytes(),
-        breaks: false,
-    };
-    let mut output = Written::new(rt.alloc());
-    let ended = play_between(rt.alloc(), &mut script, &mut output);
-    let status = ended.expect(rt, "the script is played");
-    let Written { bytes, .. } = output;
-    let printed = String::from_utf8(bytes).expect(rt, "a text");
-    (status, printed)
-}
-
 /// Plays lines on a cluster, each of which has to be good, and adds what they print.
 pub fn say_all<R: Abort + AllocGlobal>(
     rt: &R,
