@@ -38,24 +38,28 @@ use std::sync::{Mutex, Wait};
 // How many workers there are at most: one for each connection, and that of the node's own messages.
 const MOST_WORKERS: usize = Routes::MAX_CONNECTIONS + Routes::MAX_SPARE + 1;
 
-/// Runs the node of a folder, which listens once the folder is open, until the flag is set or a disk call fails. What it came
-/// to is told without its site. It notes its start and its end on standard error, and what it misses of its peers.
-pub fn run_node<'a, R, H: Hooks + Sync>(
+/// Runs the node of a folder, which it opens by `files`. The node listens once the folder is open, until the flag is set or a
+/// disk call fails. What it came to is told without its site. It notes its start and its end on standard error, and what it
+/// misses of its peers.
+pub fn run_node<'a, R, F, H: Hooks + Sync>(
     rt: &'a R,
+    files: &F,
     alloc: Global,
     config: &'a Config<'a>,
     stop: &'a Stop,
     hooks: &'a H,
 ) -> Result<Finished<()>, RunFault>
 where
-    R: Files<File = File> + Machine,
+    R: Machine,
+    F: Files<File = File>,
 {
-    run_on(rt, alloc, config, None, stop, hooks)
+    run_on(rt, files, alloc, config, None, stop, hooks)
 }
 
 /// The same, on a listener that is there already, if one is given.
-pub fn run_on<'a, R, H: Hooks + Sync>(
+pub fn run_on<'a, R, F, H: Hooks + Sync>(
     rt: &'a R,
+    files: &F,
     alloc: Global,
     config: &'a Config<'a>,
     listener: Option<TcpListener>,
@@ -63,7 +67,8 @@ pub fn run_on<'a, R, H: Hooks + Sync>(
     hooks: &'a H,
 ) -> Result<Finished<()>, RunFault>
 where
-    R: Files<File = File> + Machine,
+    R: Machine,
+    F: Files<File = File>,
 {
     let (shared, inlets) = match shared(alloc, config, millis(rt)) {
         Ok(made) => made,
@@ -80,7 +85,7 @@ where
         hooks,
         shared: &shared,
     };
-    let outcome = open_and_run(&run, listener, inlets);
+    let outcome = open_and_run(&run, files, listener, inlets);
     drop(shared);
     outcome
 }
@@ -121,13 +126,15 @@ struct Ready<S: Site> {
 }
 
 // Opens the folder and runs the node that is found there.
-fn open_and_run<R, H: Hooks + Sync>(
+fn open_and_run<R, F, H: Hooks + Sync>(
     run: &Run<'_, R, H>,
+    files: &F,
     listener: Option<TcpListener>,
     inlets: Inlets,
 ) -> Result<Finished<()>, RunFault>
 where
-    R: Files<File = File> + Machine,
+    R: Machine,
+    F: Files<File = File>,
 {
     let outlet = ServerOutlet {
         rt: run.rt,
@@ -135,7 +142,7 @@ where
         shared: run.shared,
         answers_to_all: run.config.answers_to_all,
     };
-    let site = match FileSite::open(run.rt, run.alloc, run.config.dir, outlet) {
+    let site = match FileSite::open(files, run.alloc, run.config.dir, outlet) {
         Ok(site) => site,
         Err(fault) => {
             drop(listener);

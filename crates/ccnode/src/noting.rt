@@ -7,9 +7,8 @@ use jiff::Timestamp;
 use log::kv::Source;
 use log::span::Spans;
 use log::{Level, Line, Log, Logged, Metadata, Record};
-use std::alloc::{Allocator, Global};
+use std::alloc::Global;
 use std::fmt::Display;
-use std::fs::{Files, Metadata as Attributes, OpenOptions};
 use std::net::{Net, SocketAddr};
 use std::sync::Wait;
 use std::thread::Threads;
@@ -17,7 +16,7 @@ use std::time::{Clock, Duration};
 use std::{fmt, io};
 
 /// A runtime, and a log on its standard error, for which no caller waits. It passes on each call of the runtime that a node
-/// makes: `Logged` alone makes no connection within a time.
+/// makes, but those of files: `Logged` alone makes no connection within a time.
 #[derive(Drop)]
 pub struct NotingRuntime<'a, R> {
     rt: &'a R,
@@ -165,51 +164,5 @@ impl<R: Net> Net for NotingRuntime<'_, R> {
 
     fn connect_timeout(&self, addr: SocketAddr, timeout: Duration) -> io::Result<R::Stream> {
         self.rt.connect_timeout(addr, timeout)
-    }
-}
-
-impl<R: Files> Files for NotingRuntime<'_, R> {
-    type File = R::File;
-
-    type Dir = R::Dir;
-
-    fn open_file(&self, how: &OpenOptions, path: &str) -> io::Result<R::File> {
-        self.rt.open_file(how, path)
-    }
-
-    fn open_dir(&self, path: &str) -> io::Result<R::Dir> {
-        self.rt.open_dir(path)
-    }
-
-    fn metadata(&self, path: &str) -> io::Result<Attributes> {
-        self.rt.metadata(path)
-    }
-
-    fn symlink_metadata(&self, path: &str) -> io::Result<Attributes> {
-        self.rt.symlink_metadata(path)
-    }
-
-    fn copy(&self, from: &str, to: &str) -> io::Result<u64> {
-        self.rt.copy(from, to)
-    }
-
-    fn rename(&self, from: &str, to: &str) -> io::Result<()> {
-        self.rt.rename(from, to)
-    }
-
-    fn remove_file(&self, path: &str) -> io::Result<()> {
-        self.rt.remove_file(path)
-    }
-
-    fn create_dir(&self, path: &str) -> io::Result<()> {
-        self.rt.create_dir(path)
-    }
-
-    fn remove_dir(&self, path: &str) -> io::Result<()> {
-        self.rt.remove_dir(path)
-    }
-
-    fn remove_dir_all<B: Allocator>(&self, alloc: B, path: &str) -> io::Result<()> {
-        self.rt.remove_dir_all(alloc, path)
     }
 }

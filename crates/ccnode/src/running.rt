@@ -31,8 +31,7 @@ pub fn run<R, N>(
 ) -> anyhow::Result<ExitCode>
 where
     R: Files<File = File> + Machinery,
-    N: Files<File = File>
-        + Net<Listener = TcpListener, Stream = TcpStream>
+    N: Net<Listener = TcpListener, Stream = TcpStream>
         + Threads
         + Wait
         + Clock
@@ -100,8 +99,7 @@ fn run_as<R, N>(
 ) -> anyhow::Result<ExitCode>
 where
     R: Files<File = File> + Machinery,
-    N: Files<File = File>
-        + Net<Listener = TcpListener, Stream = TcpStream>
+    N: Net<Listener = TcpListener, Stream = TcpStream>
         + Threads
         + Wait
         + Clock
@@ -128,7 +126,7 @@ where
         None => None,
     };
     let config = config_of(folder, order, own, peers_file);
-    let outcome = run_node(machine, rt.alloc(), &config, &Stop::new(), &NoHooks);
+    let outcome = run_node(machine, rt, rt.alloc(), &config, &Stop::new(), &NoHooks);
     drop(config);
     match outcome {
         Ok(_) => Ok(ExitCode::SUCCESS),

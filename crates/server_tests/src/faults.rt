@@ -80,7 +80,7 @@ where
         + Sync,
 {
     let config = config_of(rt.alloc(), setting).expect(rt, "a config");
-    let fault = run_node(rt, rt.alloc(), &config, &Stop::new(), &NoHooks).err();
+    let fault = run_node(rt, rt, rt.alloc(), &config, &Stop::new(), &NoHooks).err();
     drop(config);
     assert!(rt; fault == Some(wanted), "why a node doesn't run");
 }

@@ -239,7 +239,7 @@ where
         + Sync,
 {
     let config = config_of(alloc, setting)?;
-    let ended = run_on(rt, alloc, &config, Some(listener), stop, hooks);
+    let ended = run_on(rt, rt, alloc, &config, Some(listener), stop, hooks);
     drop(config);
     ended
 }
