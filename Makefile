@@ -3,7 +3,7 @@
     cluster load kill-cluster soak soak-absent hostile closed-streams dead-member refused-flood stray-frames many-sessions \
     stale-collects costs worked-rows trusted links beside look look-picture hostile-status mistakes deb test-systemd \
     tls-cluster clients page-bytes one-session half-close idle-cluster power-cut slow-readers full-pipe operator-places many-nodes \
-    upgrade
+    upgrade chain
 
 # Plays the script that ships with the program before any proof.
 try:
@@ -64,8 +64,12 @@ tls-cluster:
 	@bash packaging/tls/cluster.sh $(PROGRAM)
 
 # Proves every crate from nothing, tries the edits that must fail, and runs the tests and the programs.
-test:
+test: chain
 	rt ci
+
+# Looks whether the longest chain of crates that stand on each other has grown, for which the program waits: a second.
+chain:
+	@python3 tools/chain.py
 
 # Proves one crate and what it stands on, over what was checked before: make check CRATE=cc_wire
 check:

@@ -3,8 +3,10 @@
 
 `rt ci` does it in a copy of the tree that has these crates alone, without their edits. So where the kit keeps what was
 proved, `make test` takes it from here, and this from there. A program that is newer than all that it stands on, as `make
-test` leaves one, stays as it is. A line is printed for each crate, and all that was said where something fails; the status
-is 1 then."""
+test` leaves one, stays as it is. Each crate is kept as soon as it is proved, so a run that was interrupted goes on where it
+stopped. A line is printed for each crate, once a minute one of what runs and what is left, and all that was said where
+something fails; the status is 1 then."""
+import heapq
 import itertools
 import os
 import re
@@ -12,7 +14,11 @@ import shutil
 import subprocess
 import sys
 import tempfile
+import threading
 import time
+
+import chain
+import costs
 
 
 def read_lines():
@@ -58,17 +64,75 @@ def copy_tree(crates, copy):
         shutil.copytree(f"crates/{crate}", f"{copy}/crates/{crate}", ignore=leave)
 
 
+def finish_times(seconds, below, lanes):
+    """When each crate is proved, in seconds from the start: on so many processors, first those with most behind them."""
+    behind = dict.fromkeys(seconds, 0)
+    for crate in reversed([*chain.in_order(below)]):
+        behind[crate] += seconds[crate]
+        for it in below[crate]:
+            behind[it] = max(behind[it], behind[crate])
+    finished, running, now = {}, [], 0
+    while len(finished) < len(seconds):
+        begun = {*finished, *(crate for _, crate in running)}
+        ready = [it for it in seconds if it not in begun and all(below_it in finished for below_it in below[it])]
+        for crate in sorted(ready, key=lambda it: -behind[it])[: lanes - len(running)]:
+            heapq.heappush(running, (now + seconds[crate], crate))
+        now, crate = heapq.heappop(running)
+        finished[crate] = now
+    return finished
+
+
+class Progress:
+    """What is proved and what is left, by the seconds that docs/GATE.md has of each crate."""
+
+    def __init__(self, crates):
+        every = chain.crates_below()
+        self.below = {crate: [it for it in every[crate] if it in crates] for crate in crates}
+        self.seconds = {crate: it for crate, it in chain.seconds_now(every, chain.measured()).items() if crate in crates}
+        self.lanes, self.begun, self.proved, self.kept = len(os.sched_getaffinity(0)), time.time(), set(), set()
+
+    def finish(self, crate, is_kept):
+        (self.kept if is_kept else self.proved).add(crate)
+        how_proved = "proved earlier on this machine" if is_kept else "proved"
+        print(f"{len(self.proved | self.kept)} of {len(self.below)}: {crate}, {how_proved}", flush=True)
+
+    def seconds_left(self):
+        """As the page's machine would take them, times how much slower this one was until now."""
+        times = finish_times({it: 0 if it in self.kept else s for it, s in self.seconds.items()}, self.below, self.lanes)
+        elapsed, told = time.time() - self.begun, max((times[it] for it in self.proved), default=0)
+        return max(max(times.values()) * (elapsed / told if told else 1) - elapsed, 0)
+
+    def print_line(self, root):
+        seen = {}
+        costs.look(root, seen)
+        running = sorted({crate for crate, _, _ in seen.values()} & set(self.below))
+        minutes = [round(it / 60) for it in (time.time() - self.begun, self.seconds_left())]
+        proved = len(self.proved | self.kept)
+        print(
+            f"{minutes[0]} minutes: {proved} of {len(self.below)} crates are proved, {', '.join(running) or 'none'} under way, "
+            f"some {minutes[1]} minutes left",
+            flush=True,
+        )
+
+
 def prove_all(crates, copy):
     """Proves all crates of a copy. Whether nothing failed."""
     how = {"stdin": subprocess.DEVNULL, "stdout": subprocess.PIPE, "stderr": subprocess.STDOUT}
-    said, done = [], 0
+    said, progress, is_over = [], Progress(crates), threading.Event()
     with subprocess.Popen(["rt", "ci"], cwd=copy, text=True, errors="replace", **how) as ran:
+
+        def tell():
+            while not is_over.wait(60):
+                progress.print_line(ran.pid)
+
+        teller = threading.Thread(target=tell, daemon=True)
+        teller.start()
         for line in ran.stdout:
             said.append(line.replace(f"{copy}/", ""))
             if told := re.match(r"rt: (\w+) (?:proved$|is (kept)\b)", line):
-                done += 1
-                how_proved = "proved earlier on this machine" if told[2] else "proved"
-                print(f"{done} of {len(crates)}: {told[1]}, {how_proved}", flush=True)
+                progress.finish(told[1], bool(told[2]))
+        is_over.set()
+        teller.join()
     if ran.returncode:
         print(*said, sep="")
     return not ran.returncode

@@ -10,5 +10,5 @@ mod tally;
 
 pub use latencies::Latencies;
 pub use loading::load_nodes;
-pub use report::{Bucket, Report, Why};
+pub use report::{Bucket, PrintedRefusal, Report};
 pub use tally::Tally;

@@ -32,18 +32,18 @@ pub struct Report {
     pub lost: u64,
     /// How many clients ended before the time was over, and why one of them was refused.
     pub ended: u64,
-    pub refused: Option<Why>,
+    pub refused: Option<PrintedRefusal>,
     /// How many of them found that another client uses their session.
     pub in_use: u64,
 }
 
 /// Why a client was refused: the refusal's number and name, and what it carries.
 #[derive(Clone, Copy)]
-pub struct Why(pub Refusal);
+pub struct PrintedRefusal(pub Refusal);
 
-impl Described for Why {}
+impl Described for PrintedRefusal {}
 
-impl Serialize for Why {
+impl Serialize for PrintedRefusal {
     fn serialize<S: Serializer>(&self, out: &mut S) -> Result<(), S::Error> {
         out.collect_str(&self.0)
     }
@@ -80,7 +80,7 @@ impl Report {
             again: tally.again,
             lost: tally.lost,
             ended: tally.ended,
-            refused: tally.refusal.map(Why),
+            refused: tally.refusal.map(PrintedRefusal),
             in_use: tally.in_use,
         })
     }
@@ -197,7 +197,7 @@ fn print_troubles<W: fmt::Write>(f: &mut fmt::Formatter<W>, report: &Report) -> 
         writeln!(f, "lost      {lost} connections")?;
     }
     match report.refused {
-        Some(Why(why)) => writeln!(f, "ended     {ended} clients early, refused {why}")?,
+        Some(PrintedRefusal(why)) => writeln!(f, "ended     {ended} clients early, refused {why}")?,
         None if ended > 0 => writeln!(f, "ended     {ended} clients early")?,
         None => {}
     }

@@ -133,39 +133,6 @@ fn a_record_stands_behind_its_open_gate(rt: HostRuntime) {
     drop(site);
 }
 
-// Adds the entry of an Enter that makes nothing, where it fits.
-fn add_one(batch: &mut Batch) {
-    if let Err(entry) = batch.push(Entry::default()) {
-        drop(entry);
-    }
-}
-
-// How many entries a batch has, and the size of its record.
-fn measure(batch: &Batch) -> (usize, usize, usize) {
-    (batch.len(), batch.entries().len(), batch.size())
-}
-
-// Whether a batch takes 64 entries, has none once they are given up, and takes one then. Its size is a count, and the size and
-// the byte of each event.
-fn is_measured(batch: &mut Batch) -> bool {
-    for _ in 0..65 {
-        add_one(batch);
-    }
-    let full = measure(batch);
-    batch.clear();
-    let cleared = measure(batch);
-    add_one(batch);
-    full == (64, 64, 1 + 64 * 5) && cleared == (0, 0, 1) && measure(batch) == (1, 1, 1 + 5)
-}
-
-#[test]
-fn a_batch_takes_64_entries(rt: HostRuntime) {
-    let mut batch = Batch::new();
-    let is_measured = is_measured(&mut batch);
-    drop(batch);
-    assert!(rt; is_measured);
-}
-
 // The entry of an event that a core takes.
 fn entry_of<R: Abort + AllocGlobal>(rt: &R, core: &Core, event: Event) -> Entry
     ensures { (decides core.now event ≡ None) × (result ≡ record { event = event; made = made core.now event }) }
@@ -317,15 +284,6 @@ fn records_are_read_up_to_a_closed_gate_or_damage(rt: HostRuntime) {
     }
 }
 
-#[test]
-fn a_record_behind_a_closed_gate_is_not_read(rt: HostRuntime) {
-    for &gate in &[0, 1, 0xA4, 0xFF] {
-        let mut bytes = ENTERED;
-        bytes[0] = gate;
-        assert!(rt; is_found(&rt, &bytes, Ok((Side::A, (0, 0, 0), 0))));
-    }
-}
-
 // Whether a scan whose disk call of that number fails tells that call.
 fn is_told<R: Abort + AllocGlobal>(rt: &R, at: u64, call: Call) -> bool {
     let mut site = holding(rt, &ENTERED);
@@ -342,28 +300,5 @@ fn is_told<R: Abort + AllocGlobal>(rt: &R, at: u64, call: Call) -> bool {
 fn a_scan_tells_a_failed_call(rt: HostRuntime) {
     for &(at, call) in &[(2, Call::Length), (3, Call::Read), (4, Call::Read)] {
         assert!(rt; is_told(&rt, at, call));
-    }
-}
-
-// Whether an Enter is given up whose disk call of that number fails, with all after it: it doesn't land, and leaves its
-// journal at its place.
-fn is_forfeited<R: Abort + AllocGlobal>(rt: &R, at: u64) -> bool {
-    let mut site = holding(rt, &[0]);
-    site.fuse(at, Failing::Stop);
-    let mut journal = Journal::new(rt.alloc(), Side::A, 0).expect(rt, "a journal");
-    let mut node = entrant(rt);
-    let landed = takes(rt, &mut journal, &mut site, &mut node, Event::Enter);
-    drop(node);
-    drop(site);
-    let place = journal.place();
-    drop(journal);
-    !landed && place == 0
-}
-
-// The calls 0 and 1 made the side, 2 is its length, 3 the write, and 4 the sync of the record.
-#[test]
-fn a_failed_call_forfeits_the_batch(rt: HostRuntime) {
-    for &at in &[3, 4, 5, 6] {
-        assert!(rt; is_forfeited(&rt, at));
     }
 }

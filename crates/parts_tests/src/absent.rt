@@ -4,18 +4,10 @@ ghost use Rattle.std.specs.Prelude.{◌+◌, ◌≤◌, ◌^◌};
 ghost use Rattle.std.specs.FinMap as map;
 ghost use Rattle.cc_views.specs.Merge.{merge};
 
-use crate::churn::nobody;
-use crate::formats::{
-    check_bytes, copied_event, copied_message, event_fault, len_of, len_of_delivery,
-};
-use crate::links::two_links;
+use crate::formats::{check_bytes, copied_event, copied_message, event_fault};
 use crate::operations::{Said, first_request, me, querying, said_of};
-use crate::sets::{changes_of, id};
 use crate::views::no_rows;
-use cc_changes::Fraction;
-use cc_churn::Churn;
-use cc_links::Links;
-use cc_messages::{Command, Event};
+use cc_messages::Command;
 use cc_ops::{Ops, Pending, Stage};
 use cc_views::View;
 use cc_wire::{WireFault, decode_message};
@@ -79,83 +71,6 @@ fn faults_of_a_lapse(rt: HostRuntime) {
     for &(bytes, fault) in &cases {
         assert!(rt; event_fault(rt.alloc(), bytes) == Some(fault));
     }
-}
-
-fn is_told<R: Abort + AllocGlobal>(rt: &R, bytes: &[u8]) -> bool {
-    let message = decode_message(rt.alloc(), bytes).expect(rt, "a message");
-    let is_snapshot = message.is_snapshot();
-    drop(message);
-    is_snapshot
-}
-
-#[test]
-fn a_snapshot_is_told_from_a_join(rt: HostRuntime) {
-    assert!(rt; is_told(&rt, &SNAPSHOT));
-    assert!(rt; !is_told(&rt, &[3, 0, 0, 0, 3]));
-}
-
-#[test]
-fn sizes_of_absent_members(rt: HostRuntime) {
-    let found = [
-        len_of(Event::Lapse { node: id(3) }),
-        len_of(Event::Snapshot),
-    ];
-    assert!(rt; found == [5, 1] && len_of_delivery(&rt, 3, 7, &SNAPSHOT) == 62);
-}
-
-// Which peers wait for which post, what peer 2 has acknowledged, and how many were heard.
-fn is_lapsed(links: &Links) -> bool {
-    let (first, second, ninth) = (id(1), id(2), id(9));
-    links.awaits_any(first, 3)
-        && !links.awaits_any(second, 3)
-        && links.awaits_any(second, 4)
-        && !links.awaits_any(ninth, 3)
-        && matches!(links.get(second), Some(row) if row.acked == 3)
-        && links.heard_of() == 1
-}
-
-// Of three posts peer 1 has acknowledged two and peer 2 one. What was sent to peer 2 lapses, and peer 1 is heard.
-#[test]
-fn what_is_kept_for_a_peer_lapses(rt: HostRuntime) {
-    let mut links = two_links(&rt);
-    links.lapse(id(2), 3);
-    links.lapse(id(9), 3);
-    links.hear(id(1), 7);
-    assert!(rt; is_lapsed(&links));
-}
-
-const GAMMA: Fraction = Fraction { num: 4, den: 5 };
-
-// Whether node 4, which has entered, joins with a snapshot that tells of itself alone, after so many echoes, with that need.
-fn joins_told<R: Abort + AllocGlobal>(rt: &R, echoes: u8, need: u64) -> bool {
-    let told = changes_of(rt, 4, 0, 0);
-    let entered = changes_of(rt, 4, 0, 0);
-    let churn = Churn::from_parts(entered, u64::from(echoes), need);
-    let joins = churn.joins_told(GAMMA, &told);
-    drop(churn);
-    drop(told);
-    joins
-}
-
-#[test]
-fn a_snapshot_counts_as_the_echo_of_a_joined_node(rt: HostRuntime) {
-    // Of one node that is present one echo is needed; where the need is known, it stays.
-    let found = [
-        joins_told(&rt, 0, 0),
-        joins_told(&rt, 0, 2),
-        joins_told(&rt, 1, 2),
-    ];
-    assert!(rt; found == [true, false, true]);
-}
-
-#[test]
-fn a_node_joins_with_what_it_was_told(rt: HostRuntime) {
-    let me = id(1);
-    let mut churn = nobody(&rt);
-    churn.count_told(me, GAMMA);
-    let found = (churn.has_joined(me), churn.echoes(), churn.need());
-    drop(churn);
-    assert!(rt; found == (true, 1, 1));
 }
 
 // What a pending operation asks as it begins anew. None where none is pending.

@@ -7,7 +7,7 @@ use crate::sets::{changes_of, id};
 use crate::views::no_rows;
 use cc_changes::{Changes, Fraction};
 use cc_churn::Churn;
-use cc_messages::{Message, Refusal};
+use cc_messages::Message;
 use cc_views::{NodeId, View};
 use std::process::Abort;
 
@@ -96,66 +96,16 @@ fn a_node_echoes_its_own_join(rt: HostRuntime) {
     assert!(rt; is_echo);
 }
 
-fn has_joined(churn: &Churn, me: NodeId) -> bool {
-    churn.has_joined(me) && churn.has_entered(me) && !churn.has_left(me)
-}
-
-fn is_copied<R: Abort + AllocGlobal>(rt: &R, churn: &Churn, me: NodeId) -> bool {
-    let copy = churn.copy(rt.alloc()).expect(rt, "a copy");
-    let is_copied = has_joined(&copy, me);
-    drop(copy);
-    is_copied
-}
-
-// Whether it hasn't entered, and is neither asked nor retires node 2.
-fn is_outside(churn: &Churn, me: NodeId) -> bool {
-    let refused = Err(Refusal::NotEntered);
-    churn.decide_ask(me) == refused && churn.decide_retire(me, id(2)) == refused
-}
-
-// Whether it is asked, retires itself, doesn't enter again, and needs one answer.
-fn is_member(churn: &Churn, me: NodeId) -> bool {
-    churn.decide_ask(me).is_ok()
-        && churn.decide_retire(me, me).is_ok()
-        && churn.decide_enter(me) == Err(Refusal::AlreadyEntered)
-        && churn.quorum(GAMMA) == 1
-}
-
 #[test]
-fn a_node_joins_and_is_asked(rt: HostRuntime) {
+fn a_copy_knows_who_joined(rt: HostRuntime) {
     let me = id(1);
     let mut churn = nobody(&rt);
-    let was_outside = is_outside(&churn, me);
     let join = Message::Join { node: me };
     churn.apply(me, GAMMA, &join);
     drop(join);
-    let is_member = is_member(&churn, me);
-    let is_copied = is_copied(&rt, &churn, me);
+    let copy = churn.copy(rt.alloc()).expect(&rt, "a copy");
+    let known = (copy.has_joined(me), copy.has_entered(me), copy.has_left(me));
+    drop(copy);
     drop(churn);
-    assert!(rt; was_outside && is_member && is_copied);
-}
-
-type Decided = (Result<(), Refusal>, Result<(), Refusal>, u64);
-
-// Node 4 has entered, and left if that is 4. How a node then leaves and takes a message, and how many echoes it tells.
-fn leaves<R: Abort + AllocGlobal>(rt: &R, left: u32, me: u32) -> Decided {
-    let churn = Churn::from_parts(changes_of(rt, 4, 0, left), 3, 4);
-    let decided = (
-        churn.decide_leave(id(me)),
-        churn.decide_delivery(id(me)),
-        churn.echoes(),
-    );
-    drop(churn);
-    decided
-}
-
-#[test]
-fn only_who_is_inside_leaves_and_hears(rt: HostRuntime) {
-    for &(left, me, wanted) in &[
-        (0, 4, Ok(())),
-        (0, 5, Err(Refusal::NotEntered)),
-        (4, 4, Err(Refusal::Left)),
-    ] {
-        assert!(rt; leaves(&rt, left, me) == (wanted, wanted, 3));
-    }
+    assert!(rt; known == (true, true, false));
 }

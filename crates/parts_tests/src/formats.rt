@@ -284,50 +284,6 @@ fn faults_of_an_event(rt: HostRuntime) {
     }
 }
 
-/// How long an event is told to be, which is let go.
-pub fn len_of(event: Event) -> usize {
-    let len = event_len(&event);
-    drop(event);
-    len
-}
-
-/// The length of the message that these bytes spell, as it comes from a node under a number.
-pub fn len_of_delivery<R: Abort + AllocGlobal>(
-    rt: &R,
-    from: u32,
-    number: u64,
-    bytes: &[u8],
-) -> usize {
-    let message = decode_message(rt.alloc(), bytes).expect(rt, "a message");
-    len_of(Event::Deliver {
-        from: id(from),
-        number,
-        message,
-    })
-}
-
-fn len_of_join<R: Abort + AllocGlobal>(rt: &R) -> usize {
-    len_of(decode_event(rt.alloc(), &DELIVER).expect(rt, "an event"))
-}
-
-// A kind, and then ids of four bytes and numbers of eight; a Store of one row has 39 bytes, a text its length before it.
-#[test]
-fn sizes_of_events(rt: HostRuntime) {
-    let ask = Event::Ask {
-        session: 7,
-        request: 1,
-        command: Command::Store(text(b"a")),
-    };
-    let found = [
-        len_of(ask),
-        len_of(Event::Enter),
-        len_of(Event::Retire { node: id(9) }),
-    ];
-    assert!(rt; found == [20, 1, RETIRE.len()]);
-    assert!(rt; len_of_delivery(&rt, 1, 1, &STORE) == 52);
-    assert!(rt; len_of_join(&rt) == DELIVER.len());
-}
-
 /// The bytes of a copy of the message that these bytes spell.
 pub fn copied_message<R: Abort + AllocGlobal>(rt: &R, bytes: &[u8]) -> Vec<u8> {
     let read = decode_message(rt.alloc(), bytes).expect(rt, "a message");

@@ -15,8 +15,6 @@ mod frames;
 #[cfg(test)]
 mod http;
 #[cfg(test)]
-mod lines;
-#[cfg(test)]
 mod links;
 #[cfg(test)]
 mod node;

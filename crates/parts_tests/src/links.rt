@@ -5,8 +5,7 @@ ghost use Rattle.std.specs.FinMap.{empty, len};
 ghost use Rattle.cc_links.specs.Links.{ReachesWithin};
 
 use crate::sets::id;
-use cc_links::{KnownIds, LinkRow, Links};
-use cc_views::{Row, Value};
+use cc_links::{LinkRow, Links};
 use std::process::Abort;
 
 /// No peer has a link.
@@ -68,13 +67,6 @@ fn only_live_links_hold_posts_back(rt: HostRuntime) {
     assert!(rt; needed == [1, 2]);
 }
 
-#[test]
-#[tactic(auto, using(cc_links::specs::LinkLaws::reaches_empty))]
-fn without_a_live_link_no_post_is_needed(rt: HostRuntime) {
-    let links = no_links(&rt);
-    assert!(rt; links.lowest_needed(&[], 3) == 3);
-}
-
 // A copy of both links, after peer 1 was heard and peer 2 has acknowledged three posts. Peer 9 has no link.
 fn heard_and_acked<R: Abort + AllocGlobal>(rt: &R) -> Links {
     let mut links = two_links(rt);
@@ -95,59 +87,4 @@ fn are_read_again(copy: &Links) -> bool {
 fn hears_and_acks_are_read_again(rt: HostRuntime) {
     let copy = heard_and_acked(&rt);
     assert!(rt; are_read_again(&copy));
-}
-
-// Whether these are links to the peers 3 and 5 alone, in that order.
-fn are_to_3_and_5(rows: &[LinkRow]) -> bool {
-    matches!(rows, [first, second] if first.peer == id(3) && second.peer == id(5))
-}
-
-#[test]
-#[tactic(auto, using(cc_links::specs::LinkLaws::len_add))]
-fn rows_stand_by_ascending_peer(rt: HostRuntime) {
-    let mut links = no_links(&rt);
-    links.add_all(&[id(5), id(3), id(5)], 0);
-    assert!(rt; are_to_3_and_5(links.rows()));
-}
-
-// A row of a view, with nothing in it.
-fn row_of_view(node: u32) -> Row {
-    Row {
-        node: id(node),
-        number: 0,
-        value: Value::empty(),
-    }
-}
-
-fn are_linked(links: &Links) -> bool {
-    are_to_3_and_5(links.rows())
-        && links.wire_number(id(3), 3) == Some(1)
-        && links.wire_number(id(5), 2).is_none()
-}
-
-#[test]
-#[tactic(auto, using(cc_links::specs::LinkLaws::len_add))]
-fn the_nodes_of_a_view_get_links(rt: HostRuntime) {
-    let mut links = no_links(&rt);
-    links.add_nodes(&[row_of_view(3), row_of_view(5)], 2);
-    assert!(rt; are_linked(&links));
-}
-
-// Whether all fit of the peers of the links, of nodes 2 and 3, and of node 1, and how many they are.
-fn known_of(links: &Links) -> ([bool; 3], usize) {
-    let mut known = KnownIds::new();
-    let fit = [
-        known.add_peers(links.rows()),
-        known.add_all(&[id(2), id(3)]),
-        known.add(id(1)),
-    ];
-    let len = known.len();
-    drop(known);
-    (fit, len)
-}
-
-#[test]
-fn ids_are_counted_once(rt: HostRuntime) {
-    let links = two_links(&rt);
-    assert!(rt; known_of(&links) == ([true; 3], 3));
 }

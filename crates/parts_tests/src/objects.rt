@@ -4,9 +4,9 @@ ghost use Rattle.std.specs.Prelude.{◌≡◌, ◌+◌, ◌≤◌};
 ghost use Rattle.std.specs.FinMap.{len};
 
 use crate::sets::id;
-use crate::views::{no_rows, text};
-use cc_objects::{SetFull, add_member, flag_of, max_of, set_flag, set_of, write_max, write_text};
-use cc_views::{Row, Text, Value, View};
+use crate::views::no_rows;
+use cc_objects::{add_member, flag_of, max_of, set_flag, set_of, write_max};
+use cc_views::{Row, Value, View};
 use std::process::Abort;
 
 // A row with number 0.
@@ -47,31 +47,6 @@ fn a_set_is_the_union_of_the_rows(rt: HostRuntime) {
     let none = has_members(&rt, no_rows(&rt), &[]);
     let three = has_members(&rt, view(&rt), &[2, 5, 9]);
     assert!(rt; none && three);
-}
-
-#[test]
-fn a_full_set_takes_only_its_members(rt: HostRuntime) {
-    let mut value = Value::empty();
-    for number in 0..32 {
-        value = add_member(&value, number).expect(&rt, "room");
-    }
-    assert!(rt; add_member(&value, 32) == Err(SetFull) && add_member(&value, 7) == Ok(value));
-}
-
-#[test]
-fn a_write_changes_one_slot(rt: HostRuntime) {
-    let text = text(b"a");
-    let mut wanted = Value::empty();
-    let is_empty = (wanted.text, wanted.max, wanted.flag) == (Text::empty(), 0, false);
-    let named = write_text(&wanted, text);
-    wanted.text = text;
-    let is_named = named == wanted;
-    let raised = write_max(&write_max(&named, 5), 3);
-    wanted.max = 5;
-    let is_raised = raised == wanted;
-    let flagged = set_flag(&raised);
-    wanted.flag = true;
-    assert!(rt; is_empty && is_named && is_raised && flagged == wanted);
 }
 
 // What is read of no row, of one with the maximum 9, and of that and one with the maximum 5 and the flag.

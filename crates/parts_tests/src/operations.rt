@@ -9,7 +9,7 @@ ghost use Rattle.cc_messages.specs.declared.message.Message.TheVariants as messa
 
 use crate::views::{no_rows, row, text};
 use cc_messages::{Answer, Command, Message};
-use cc_ops::{AskList, Asked, Ops, Pending, Replies, Reply, Stage, is_writing};
+use cc_ops::{AskList, Asked, Ops, Pending, Replies, Reply, Stage};
 use cc_views::{NodeId, Row, Text, Value};
 use std::process::Abort;
 
@@ -106,15 +106,6 @@ fn rows(message: &Message) -> &[Row] {
 }
 
 #[test]
-fn a_new_node_has_stored_nothing(rt: HostRuntime) {
-    let ops = nothing_done(&rt);
-    let is_empty = ops.is_idle() && ops.view().rows().is_empty();
-    let numbers = (ops.number(), ops.tag());
-    drop(ops);
-    assert!(rt; (is_empty, numbers) == (true, (0, 0)));
-}
-
-#[test]
 fn parts_are_put_together(rt: HostRuntime) {
     let stage = Stage::StoringBack(Pending {
         asked: first_request(Command::Collect),
@@ -144,22 +135,6 @@ fn parts_are_put_together(rt: HostRuntime) {
     assert!(rt; (found, is_staged) == ((3, 5, true), true));
 }
 
-#[test]
-fn a_command_writes_or_reads(rt: HostRuntime) {
-    for &(command, writes) in &[
-        (Command::Store(Text::empty()), true),
-        (Command::Collect, false),
-        (Command::WriteMax(1), true),
-        (Command::ReadMax, false),
-        (Command::SetFlag, true),
-        (Command::ReadFlag, false),
-        (Command::AddMember(1), true),
-        (Command::ReadSet, false),
-    ] {
-        assert!(rt; is_writing(&command) == writes);
-    }
-}
-
 // It has the same tag, and isn't idle.
 #[test]
 fn a_copy_waits_for_the_same(rt: HostRuntime) {
@@ -185,14 +160,6 @@ fn first_post<R: Abort + AllocGlobal>(rt: &R, command: Command) -> Message
 }
 
 #[test]
-fn a_collect_begins_with_a_query(rt: HostRuntime) {
-    let post = first_post(&rt, Command::Collect);
-    let said = said(&post);
-    drop(post);
-    assert!(rt; said == ("Query", 0, 1, 1));
-}
-
-#[test]
 fn a_store_begins_with_its_row(rt: HostRuntime) {
     let post = first_post(&rt, Command::Store(text(b"a")));
     // It stores that row alone, with tag 1 and node 1.
@@ -214,27 +181,6 @@ fn answered<R: Abort + AllocGlobal>(rt: &R, server: &Ops, message: &Message) -> 
     let said = said_of(&answer);
     drop(answer);
     said
-}
-
-#[test]
-fn a_query_is_replied_to(rt: HostRuntime) {
-    let node = me();
-    let server = querying(&rt);
-    let query = Message::Query { tag: 1, node };
-    let said = answered(&rt, &server, &query);
-    drop(query);
-    drop(server);
-    assert!(rt; said == Some(("QueryReply", 0, 1, 1)));
-}
-
-#[test]
-fn what_was_seen_is_stored_back(rt: HostRuntime) {
-    let reply = empty_reply(&rt);
-    let server = querying(&rt);
-    let said = answered(&rt, &server, &reply);
-    drop(server);
-    drop(reply);
-    assert!(rt; said == Some(("Store", 0, 2, 1)));
 }
 
 // A store of nothing.
@@ -284,26 +230,4 @@ fn a_collect_is_told_what_it_stored_back(rt: HostRuntime) {
     let are_told = are_told_nothing(told.as_slice());
     drop(told);
     assert!(rt; are_told);
-}
-
-// The session of the first reply, which is taken.
-fn take_first(told: &mut Replies) -> Option<u64> {
-    let reply = told.take_first()?;
-    let session = reply.session;
-    drop(reply);
-    Some(session)
-}
-
-#[test]
-fn the_only_reply_is_taken_once(rt: HostRuntime) {
-    let mut told = last_replies(&rt);
-    let was_empty = told.is_empty();
-    let taken = (
-        take_first(&mut told),
-        told.is_empty(),
-        take_first(&mut told),
-    );
-    drop(told);
-    assert!(rt; (was_empty, taken) == (false, (Some(7), true, None)));
-    assert!(rt; Replies::none().is_empty());
 }

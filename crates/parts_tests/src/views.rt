@@ -4,7 +4,7 @@ ghost use Rattle.std.specs.Prelude.{◌≡◌, ◌≤◌, IsSome, length};
 ghost use Rattle.std.specs.FinMap.{empty, len};
 
 use crate::sets::id;
-use cc_views::{NumberSet, Row, Text, Value, View};
+use cc_views::{Row, Text, Value, View};
 use std::process::Abort;
 
 /// A text of at most 64 bytes.
@@ -44,23 +44,6 @@ fn view<R: Abort + AllocGlobal>(rt: &R, node: u32, text: &[u8]) -> View
     view
 }
 
-#[test]
-fn a_text_has_at_most_64_bytes(rt: HostRuntime) {
-    let longest = Text::new(&[7; 64]);
-    assert!(rt; matches!(longest, Some(text) if text.as_bytes() == [7; 64].as_slice()));
-    assert!(rt; Text::new(&[7; 65]).is_none());
-}
-
-#[test]
-#[tactic(auto, using(cc_views::specs::NatSets::len_insert_at_most))]
-fn a_number_stands_once_in_a_set(rt: HostRuntime) {
-    let mut set = NumberSet::new();
-    set.insert(9);
-    set.insert(5);
-    set.insert(9);
-    assert!(rt; set.as_slice() == [5, 9].as_slice());
-}
-
 // Into the view of node 1 with text "a" that of a node with text "b" is merged. How many rows it has then, and whether its own
 // is the only one.
 #[tactic(auto, using(cc_views::specs::MergeLaws::merge_is_no_larger))]
@@ -74,11 +57,6 @@ fn merged<R: Abort + AllocGlobal>(rt: &R, node: u32) -> (usize, bool) {
 #[test]
 fn equal_numbers_keep_the_left_row(rt: HostRuntime) {
     assert!(rt; merged(&rt, 1) == (1, true));
-}
-
-#[test]
-fn both_nodes_stand_in_a_merge(rt: HostRuntime) {
-    assert!(rt; merged(&rt, 2) == (2, false));
 }
 
 // The view has one row more than its copy, which is at most the view, and the view isn't at most it.
