@@ -109,8 +109,8 @@ class Progress:
         minutes = [round(it / 60) for it in (time.time() - self.begun, self.seconds_left())]
         proved = len(self.proved | self.kept)
         print(
-            f"{minutes[0]} minutes: {proved} of {len(self.below)} crates are proved, {', '.join(running) or 'none'} under way, "
-            f"some {minutes[1]} minutes left",
+            f"after {minutes[0]} min: {proved} of {len(self.below)} crates are proved, {', '.join(running) or 'none'} under way, "
+            f"about {minutes[1]} min left",
             flush=True,
         )
 
@@ -165,4 +165,7 @@ def main(programs):
 
 
 if __name__ == "__main__":
-    sys.exit(main(sys.argv[1:]))
+    try:
+        sys.exit(main(sys.argv[1:]))
+    except KeyboardInterrupt:
+        sys.exit("interrupted: each crate that was proved is kept, and the next run goes on from there")
