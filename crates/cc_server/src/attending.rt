@@ -2,45 +2,19 @@
 
 use crate::caller::{Done, serve};
 use crate::context::Context;
-use crate::shared::Shared;
-use crate::timed_input::{Patience, TimedInput};
-use cc_channels::{Connection, NotAdmitted, write_frames};
+use cc_channels::{Connection, NotAdmitted};
 use cc_intake::{Hooks, Lane, Life};
-use cc_protocol::{Access, Admitted, Ending, Origin};
+use cc_protocol::{Access, Admitted, Ending};
+use cc_shared::{
+    Port, Shared, TimedInput, admit, bound_of, connection_over, patience_of, write_out,
+};
 use cc_views::NodeId;
-use crossbeam_channel::{Receiver, bounded};
 use log::{Log, debug};
-use std::alloc::Global;
-use std::net::{Shutdown, SocketAddr, TcpStream};
-use std::sync::atomic::AtomicU64;
+use std::net::{SocketAddr, TcpStream};
 use std::sync::{Arc, Wait};
 use std::thread;
 use std::thread::Threads;
-use std::time::{Clock, Duration};
-
-// How many frames wait for a connection's writer at most.
-const CONNECTION_ROOM: usize = 256;
-
-// How long a client may take nothing, in milliseconds.
-const PATIENCE_MS: u64 = 5000;
-
-// How long a connection may say nothing, in seconds: it may lead to a machine that vanished.
-const SILENCE_S: u64 = 3600;
-
-// How long a whole frame may take, in seconds.
-const FRAME_S: u64 = 60;
-
-// How long one that is kept for the operator may say nothing, and how long a frame may take there, in seconds.
-const OPERATOR_S: u64 = 5;
-
-/// Which port of a node somebody connects to.
-#[derive(Clone, Copy)]
-pub enum Port {
-    /// The one that nodes, clients and the operator connect to.
-    Nodes,
-    /// The one for clients alone.
-    Clients,
-}
+use std::time::Clock;
 
 /// Serves a connection from that address to that port, with a writer of its own.
 pub fn attend<L: Life + Send + Sync, Q: Lane + Send + Sync, R, H: Hooks + Sync>(
@@ -52,20 +26,25 @@ pub fn attend<L: Life + Send + Sync, Q: Lane + Send + Sync, R, H: Hooks + Sync>(
 where
     R: Threads + Wait + Clock + Log + Sync,
 {
-    let rt = context.rt;
-    let _ = stream.set_nodelay(true);
-    let _ = stream.set_write_timeout(Some(Duration::from_millis(PATIENCE_MS)));
-    let Some((pen, connection)) = opened(context.alloc, stream) else {
+    let (rt, shared) = (context.rt, context.shared);
+    let Some((pen, connection)) = connection_over(context.alloc, stream) else {
         return;
     };
-    let Some(admitted) = admitted(context, &connection, from, port) else {
+    let Some(admitted) = admit(
+        rt,
+        shared,
+        &connection,
+        from,
+        port,
+        context.remote_operators,
+    ) else {
         drop(pen);
         drop(connection);
-        debug!(rt; "node {} takes no connection from {}: too many are open", context.me.number(), from);
+        note_visit(rt, context.me, from, Visit::Full);
         return;
     };
     context.shared.gauges.open();
-    debug!(rt; "node {} takes a connection from {}", context.me.number(), from);
+    note_visit(rt, context.me, from, Visit::Taken);
     thread::scope(thread::scope_env(), rt, move |scope| -> () {
         if scope.spawn(move || write_out(rt, pen)).is_ok() {
             serve_in(context, connection, admitted, from);
@@ -76,79 +55,32 @@ where
     });
     context.shared.connections.leave(rt, admitted.ticket);
     context.shared.gauges.close();
-    debug!(rt; "node {} has ended its connection from {}", context.me.number(), from);
+    note_visit(rt, context.me, from, Visit::Ended);
 }
 
-/// What a connection's writer has.
-#[derive(Drop)]
-struct Pen {
-    stream: Arc<TcpStream>,
-    from: Receiver<Vec<u8>>,
-    waiting: Arc<AtomicU64>,
+// What becomes of a connection that somebody opens.
+#[derive(Clone, Copy)]
+enum Visit {
+    Full,
+    Taken,
+    Ended,
 }
 
-// The writer's end of a connection, and the connection.
-fn opened(alloc: Global, stream: TcpStream) -> Option<(Pen, Arc<Connection>)> {
-    let stream = Arc::new(alloc, stream).ok()?;
-    let waiting = Arc::new(alloc, AtomicU64::new(0)).ok()?;
-    let (to, from) = bounded(alloc, CONNECTION_ROOM).ok()?;
-    let pen = Pen {
-        stream: Arc::try_clone(&stream).ok()?,
-        from,
-        waiting: Arc::try_clone(&waiting).ok()?,
-    };
-    let connection = Arc::new(alloc, Connection::new(stream, to, waiting)).ok()?;
-    Some((pen, connection))
-}
-
-// Lets a connection in. None where there are too many.
-fn admitted<R: Wait, H: Hooks, L: Life, Q: Lane>(
-    context: &Context<'_, R, H, L, Q>,
-    connection: &Arc<Connection>,
-    from: SocketAddr,
-    port: Port,
-) -> Option<Admitted> {
-    let known = Arc::try_clone(connection).ok()?;
-    let origin = origin_of(context.rt, context.shared, from, port);
-    let access = Access::of(origin, context.remote_operators);
-    context
-        .shared
-        .connections
-        .enter(context.rt, known, origin, access)
-}
-
-fn origin_of<R: Wait>(rt: &R, shared: &Shared, from: SocketAddr, port: Port) -> Origin {
-    let address = from.ip();
-    if matches!(port, Port::Clients) {
-        Origin::Client
-    } else if address.is_loopback() {
-        Origin::Loopback
-    } else if shared.channels.has_host(rt, address) {
-        Origin::Peer
-    } else {
-        Origin::Stranger
+impl Visit {
+    // What is said before and behind the address that it comes from.
+    const fn words(self) -> (&'static str, &'static str) {
+        match self {
+            Visit::Full => ("takes no connection from", ": too many are open"),
+            Visit::Taken => ("takes a connection from", ""),
+            Visit::Ended => ("has ended its connection from", ""),
+        }
     }
 }
 
-// How long a connection may say nothing, and a frame of it may take.
-fn patience_of(admitted: Admitted) -> Patience {
-    let (silence, frame) = if admitted.access.asks {
-        (SILENCE_S, FRAME_S)
-    } else {
-        (OPERATOR_S, OPERATOR_S)
-    };
-    Patience {
-        silence: Duration::from_secs(silence),
-        frame: Duration::from_secs(frame),
-    }
-}
-
-// Writes what is for a connection, and closes it where a write fails.
-fn write_out<R: Wait>(rt: &R, pen: Pen) {
-    let to: &TcpStream = &pen.stream;
-    write_frames(rt, &pen.from, to, &pen.waiting);
-    let _ = pen.stream.shutdown(Shutdown::Both);
-    drop(pen);
+// Notes what becomes of a connection from there.
+fn note_visit<R: Log>(rt: &R, me: NodeId, from: SocketAddr, visit: Visit) {
+    let (before, behind) = visit.words();
+    debug!(rt; "node {} {before} {from}{behind}", me.number());
 }
 
 // Serves with a share out of the pool, or a new one. Who says that nothing more comes is answered all the same. The connection is
@@ -210,15 +142,4 @@ fn serve_out<R: Wait + Clock + Log, H: Hooks, L: Life, Q: Lane>(
 // Notes why a connection is closed over which something came that it may not bring.
 fn note_barred<R: Log>(rt: &R, me: NodeId, from: SocketAddr, access: Access) {
     debug!(rt; "node {} closes the connection from {}, {}", me.number(), from, bound_of(access));
-}
-
-// What binds a connection that may not bring all.
-fn bound_of(access: Access) -> &'static str {
-    if access.nodes {
-        "since the operator's requests aren't taken over the network"
-    } else if access.asks {
-        "since its port is for what clients ask alone"
-    } else {
-        "which is kept for the operator's requests"
-    }
 }

@@ -6,11 +6,8 @@ ghost use Rattle.cc_server.specs.Serving.{brings_again, Takes, Stops, Brings};
 
 use crate::context::Context;
 use crate::duties::duty_of;
-use crate::meeting::Meeting;
-use crate::notes::{Departure, Notice, give_notice};
 use crate::of_life::OfLife;
 use crate::replies::Replies;
-use crate::shared::Shared;
 use cc_channels::{Admission, Admitting, Flushed, NotAdmitted, Verdict, bytes_of, speaker_of};
 use cc_frames::Frame;
 use cc_intake::{Accepted, Hooks, Lane, Life, Refused, Share, Source};
@@ -19,6 +16,7 @@ use cc_ops::Asked;
 use cc_protocol::{
     Duty, Ending, Incoming, Input, Objection, event_of, objection_frame, objection_to,
 };
+use cc_shared::{Departure, Meeting, Notice, Shared, give_notice};
 use cc_views::NodeId;
 use log::{Log, debug};
 use std::alloc::Global;

@@ -4,10 +4,10 @@ ghost use Rattle.std.specs.Prelude.{◌≡◌, ◌+◌, List};
 ghost use Rattle.cc_intake.specs.Talks.{Answer, IsAnswer, Talks, places_of, PlacesRise};
 
 use crate::of_life::OfLife;
-use crate::shared::Shared;
 use cc_channels::{Admission, Connection, ConnectionAdmission};
 use cc_intake::{Hooks, Intake, Lane, Life, Queue, Share, Source, work};
 use cc_protocol::Admitted;
+use cc_shared::Shared;
 use cc_views::NodeId;
 use std::alloc::Global;
 use std::net::SocketAddr;

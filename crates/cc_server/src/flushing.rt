@@ -1,16 +1,12 @@
 //! The flusher's thread.
 
-use crate::known::Stranger;
-use crate::looking::{Looks, look, tell_withheld};
-use crate::notes::Note;
 use crate::of_life::OfLife;
-use crate::shared::Shared;
-use crate::showing::{Tally, show};
 use cc_channels::{Admission, Durable, millis};
-use cc_flush::{CheckpointFault, Failed};
+use cc_flush::{CheckpointFault, Failed, Flusher};
 use cc_intake::{Lane, Life, Queue, Turner};
 use cc_journal::Batch;
 use cc_messages::Event;
+use cc_shared::{Looks, Note, Shared, Tally, look, pass_second, tell_withheld};
 use cc_site::Site;
 use crossbeam_utils::sync::Parker;
 use std::alloc::Global;
@@ -25,9 +21,6 @@ const PLENTY: u64 = 4_194_304;
 
 const GROWTH: u64 = 1_048_576;
 
-// From how many microseconds on a sync is noted.
-const SLOW_US: u64 = 1_000_000;
-
 /// What the flusher looks at.
 #[derive(Drop)]
 pub struct Watch<'x> {
@@ -36,8 +29,8 @@ pub struct Watch<'x> {
     pub shared: &'x Shared,
 }
 
-/// Takes a turn each time that it is woken, and more where one batch didn't take all that waited, until nothing is left after
-/// `done` was set. What nobody woke it for waits for the next turn. After each turn it looks what lapses, and at each tick how
+/// Sends what earlier lives left unacknowledged, and then takes a turn each time that it is woken, and more where one batch didn't
+/// take all that waited, until nothing is left after `done` was set. What nobody woke it for waits for the next turn. After each turn it looks what lapses, and at each tick how
 /// the peers stand.
 pub fn flush_all<S: Site, L: Life, Q: Lane, R: Wait + Clock>(
     rt: &R,
@@ -49,7 +42,8 @@ pub fn flush_all<S: Site, L: Life, Q: Lane, R: Wait + Clock>(
     let mut is_fresh = true;
     let mut begun = 0;
     let mut looks = Looks::new();
-    let mut tally = Tally::new(turner.engine().opened(), turner.engine().twin().core());
+    let mut tally = tally_of(turner.engine());
+    send_kept(rt, turner, watch)?;
     for _ in rt.forever() {
         let is_done = watch.shared.done.is_set();
         watch.shared.waker.look();
@@ -65,7 +59,7 @@ pub fn flush_all<S: Site, L: Life, Q: Lane, R: Wait + Clock>(
             if !is_fresh {
                 is_fresh = spare(rt, turner, watch.shared, &mut tally, &mut begun)?;
             }
-            pass_second(rt, turner, watch, &mut tally);
+            show(rt, turner.engine(), watch, &mut tally);
             enter(rt, turner, watch.shared);
         }
         let core = turner.engine().twin().core();
@@ -84,34 +78,27 @@ pub fn flush_all<S: Site, L: Life, Q: Lane, R: Wait + Clock>(
     unreachable!()
 }
 
-// A second has passed: what is seen of it is noted, and the node is laid out for those who look at it.
-fn pass_second<S: Site, L: Life, Q: Lane, R: Wait>(
+// Sends what earlier lives left unacknowledged: a peer that lacks it refuses each later post.
+fn send_kept<S: Site, L: Life, Q: Lane, R: Wait>(
     rt: &R,
-    turner: &Turner<S, L, Q>,
+    turner: &mut Turner<S, L, Q>,
     watch: &Watch<'_>,
-    tally: &mut Tally,
-) {
-    let engine = turner.engine();
-    let slowest = watch.shared.gauges.take_slowest();
-    if slowest >= SLOW_US {
-        watch.shared.notes.put(rt, Note::SlowSync(slowest));
-    }
-    note_strangers(rt, watch.shared);
-    tally.pass_second(rt, engine.twin().core(), watch.shared);
-    show(rt, watch.alloc, engine, tally, watch.shared);
+) -> Result<(), Failed> {
+    resend(turner, watch.shared)?;
+    tell_withheld(rt, watch.alloc, turner.engine().twin().core(), watch.shared);
+    Ok(())
 }
 
-// Notes which nodes were heard of that still aren't among the peers.
-fn note_strangers<R: Wait>(rt: &R, shared: &Shared) {
-    for _ in 0..MOST_WISHES {
-        let Some(stranger) = shared.known.next_stranger(rt, shared.seconds()) else {
-            return;
-        };
-        if shared.channel_to(stranger.node).is_none() {
-            let Stranger { node, from, .. } = stranger;
-            shared.notes.put(rt, Note::Stranger(node, from));
-        }
-    }
+// What an engine begins with that was opened.
+fn tally_of<S: Site>(engine: &Flusher<S>) -> Tally {
+    let opened = engine.opened();
+    Tally::new(opened.records, opened.events, engine.twin().core())
+}
+
+// A second has passed for the node of an engine.
+fn show<S: Site, R: Wait>(rt: &R, engine: &Flusher<S>, watch: &Watch<'_>, tally: &mut Tally) {
+    let disk = tally.disk(engine.side(), engine.generation(), engine.used());
+    pass_second(rt, watch.alloc, engine.twin(), disk, tally, watch.shared);
 }
 
 // Has the node enter, once more where it was refused for want of memory.

@@ -2,11 +2,11 @@
 
 use crate::context::Context;
 use crate::duties::duty_of;
-use crate::shared::Shared;
 use cc_channels::{Admission, Flushed};
 use cc_intake::{Accepted, Hooks, Lane, Life, Refused, Source};
 use cc_messages::Event;
 use cc_protocol::Duty;
+use cc_shared::Shared;
 use crossbeam_channel::Receiver;
 use std::sync::Wait;
 

@@ -6,24 +6,20 @@ ghost use Rattle.cc_intake.specs.Accepting.{share_limit};
 
 use crate::config::Config;
 use crate::context::Context;
-use crate::machine::Machine;
 use crate::measured::Measured;
-use crate::notes::{Notice, give_notice};
 use crate::of_life::OfLife;
-use crate::outlet::ServerOutlet;
 use crate::run_fault::RunFault;
-use crate::shared::{Inlets, Shared};
-use crate::threads::{Listeners, live};
+use crate::threads::{cut, live};
 use cc_channels::{Admission, Durable, Stop, millis};
 use cc_files::FileSite;
 use cc_flush::{Back, Failed, Flusher, open_anew};
-use cc_frames::Peer;
 use cc_intake::{
     Ends, Finished, Hooked, Hooks, Intake, Lane, Life, Queue, Share, Turner, finish, lane, start,
 };
 use cc_messages::Event;
 use cc_node::Core;
 use cc_protocol::Routes;
+use cc_shared::{Inlets, Listeners, Machine, ServerOutlet, Shared, note_opened};
 use cc_site::Site;
 use cc_views::NodeId;
 use cc_watch::Board;
@@ -93,7 +89,7 @@ where
 // What the threads of a node need that is started at that moment.
 fn shared(alloc: Global, config: &Config<'_>, now: u64) -> Result<(Shared, Inlets), RunFault> {
     let board = board(alloc, config, now)?;
-    Shared::new(alloc, &config.peers, board, now)
+    Shared::new(alloc, &config.peers, board, now).or(Err(RunFault::NoMemory))
 }
 
 // What those who may look at the node look at.
@@ -282,31 +278,6 @@ fn note_clients<R: Log, H>(run: &Run<'_, R, H>, me: NodeId, listeners: &Listener
     }
 }
 
-// Notes the share of the node that was found, where it isn't 1, and how its folder and its peers agree.
-fn note_opened<R: Log>(rt: &R, core: &Core, peers: &[Peer]) {
-    let share = core.ops().share();
-    if share > 1 {
-        give_notice(rt, core.me(), &Notice::Share(share));
-    }
-    note_addresses(rt, core, peers);
-}
-
-// Notes which nodes of the folder have no address, and which peers it doesn't know.
-fn note_addresses<R: Log>(rt: &R, core: &Core, peers: &[Peer]) {
-    let me = core.me();
-    for link in core.links().rows() {
-        let is_peer = peers.iter().any(|peer| peer.id == link.peer);
-        if link.peer != me && !is_peer && core.is_live(link.peer) {
-            give_notice(rt, me, &Notice::Unreachable(link.peer));
-        }
-    }
-    for peer in peers {
-        if core.links().get(peer.id).is_none() {
-            give_notice(rt, me, &Notice::Unknown(peer.id));
-        }
-    }
-}
-
 // Lives the life that begins with the node that was opened. Its premises are those of `start`.
 fn run_as<L: Life + Send + Sync, S: Site + Drop, R, H: Hooks + Sync>(
     run: &Run<'_, R, H>,
@@ -434,7 +405,7 @@ where
         queue: &queue,
         shares: &shares,
     };
-    let (watch, far_ends) = inlets.cut(run.alloc, me, run.shared);
+    let (watch, far_ends) = cut(inlets, run.alloc, me, run.shared);
     let outcome = live(&context, &mut turner, watch, far_ends, &listeners, run.stop);
     drop(listeners);
     let finished = finish(

@@ -2,43 +2,31 @@
 
 ghost use Rattle.std.specs.Thread.{IsSend};
 
-use crate::attending::{Port, attend};
+use crate::attending::attend;
 use crate::context::Context;
 use crate::flushing::{Watch, flush_all};
-use crate::following::follow_peers;
-use crate::machine::Machine;
-use crate::notes::{Note, write_notes};
 use crate::of_life::OfLife;
 use crate::own::serve_own;
-use crate::shared::{Inlets, Shared};
-use cc_channels::{Admission, FarEnd, Flag, Flushed, Stop, millis, monotonic_millis, write_peer};
+use cc_channels::{Admission, FarEnd, Flag, Stop, write_peer};
 use cc_flush::Failed;
 use cc_intake::{Hooks, Lane, Life, Queue, Turner};
 use cc_messages::Event;
+use cc_shared::{
+    Follower, Inlets, Listeners, Machine, Note, Port, Shared, follow_peers, show_until, tick_until,
+    write_notes,
+};
 use cc_site::Site;
 use cc_views::NodeId;
-use cc_watch::{Visitors, serve_pages};
 use crossbeam_channel::Receiver;
 use std::alloc::Global;
-use std::net::{Net, SocketAddr, TcpListener, TcpStream};
+use std::net::TcpListener;
 use std::sync::Wait;
 use std::thread;
 use std::thread::Scope;
 use std::time::{Clock, Duration};
 
-// How long a tick takes, in milliseconds.
-const TICK_MS: u64 = 1000;
-
 // How long the acceptor pauses after a connection that can't be accepted, in milliseconds.
 const PAUSE_MS: u64 = 50;
-
-/// Where a node listens: for all, for clients alone, and for those who look at it, if they may.
-#[derive(Drop)]
-pub struct Listeners {
-    pub node: TcpListener,
-    pub clients: Option<TcpListener>,
-    pub pages: Option<TcpListener>,
-}
 
 /// What the writers of the peers and of notes, and the worker of the own messages, take out of.
 #[derive(Drop)]
@@ -49,28 +37,26 @@ pub struct FarEnds {
     pub notes: Receiver<Option<Note>>,
 }
 
-impl Inlets {
-    /// What the flusher takes out of, and what the workers and writers of the node `me` do.
-    pub fn cut(self, alloc: Global, me: NodeId, shared: &Shared) -> (Watch<'_>, FarEnds) {
-        let Inlets {
-            parker,
-            far,
-            own,
-            notes,
-        } = self;
-        let watch = Watch {
-            alloc,
-            parker,
-            shared,
-        };
-        let ends = FarEnds {
-            me,
-            far,
-            own,
-            notes,
-        };
-        (watch, ends)
-    }
+/// What the flusher takes out of, and what the workers and writers of the node `me` do.
+pub fn cut(inlets: Inlets, alloc: Global, me: NodeId, shared: &Shared) -> (Watch<'_>, FarEnds) {
+    let Inlets {
+        parker,
+        far,
+        own,
+        notes,
+    } = inlets;
+    let watch = Watch {
+        alloc,
+        parker,
+        shared,
+    };
+    let ends = FarEnds {
+        me,
+        far,
+        own,
+        notes,
+    };
+    (watch, ends)
 }
 
 /// Starts the ticker and what serves, flushes in this thread until all is done, and ends them. None where a thread can't be
@@ -101,7 +87,8 @@ where
                 .spawn(move || tick_until(rt, shared, admission, listeners, stop))
                 .ok()?;
             if let Some(pages) = &listeners.pages {
-                let _ = scope.spawn(move || show_until(context, pages));
+                let alloc = context.alloc;
+                let _ = scope.spawn(move || show_until(rt, alloc, shared, pages));
             }
             let Ok(server) = scope.spawn(move || serve_until(context, ends, listeners, stop)) else {
                 shared.done.set();
@@ -145,64 +132,6 @@ where
     context.shared.done.set();
     context.shared.waker.wake();
     is_served
-}
-
-// Ticks until all is done, whatever the flusher waits for: so seconds are those of the clock. Once it is to end, each tick wakes the
-// acceptors too.
-fn tick_until<R: Wait + Clock + Net<Stream = TcpStream>, F: Flushed>(
-    rt: &R,
-    shared: &Shared,
-    admission: &Admission<F>,
-    listeners: &Listeners,
-    stop: &Stop,
-) {
-    for _ in rt.forever() {
-        thread::sleep(rt, Duration::from_millis(TICK_MS));
-        shared.tick(millis(rt), monotonic_millis(rt));
-        admission.tick(rt);
-        if shared.done.is_set() {
-            if let Some(pages) = &listeners.pages {
-                knock(rt, pages);
-            }
-            return;
-        }
-        if stop.is_set() || shared.ended.is_set() {
-            knock(rt, &listeners.node);
-            if let Some(clients) = &listeners.clients {
-                knock(rt, clients);
-            }
-        }
-    }
-    unreachable!()
-}
-
-// Wakes the acceptor of a listener, which then looks at the flags.
-fn knock<R: Net<Stream = TcpStream>>(rt: &R, listener: &TcpListener) {
-    if let Ok(address) = listener.local_addr() {
-        let _ = TcpStream::connect_timeout(rt, &address, Duration::from_secs(1));
-    }
-}
-
-// Serves those who look at the node until no worker is left.
-fn show_until<L: Life, Q: Lane, R, H: Hooks + Sync>(
-    context: &Context<'_, R, H, L, Q>,
-    listener: &TcpListener,
-)
-where
-    R: Machine,
-{
-    let rt = context.rt;
-    let alloc = context.alloc;
-    let Some(board) = &context.shared.board else {
-        return;
-    };
-    let visitors = Visitors::new(board, &context.shared.done);
-    let visitors = &visitors;
-    thread::scope(
-        thread::scope_env(),
-        rt,
-        |scope| serve_pages(scope, rt, alloc, visitors, listener),
-    );
 }
 
 // Starts the writers, the worker of the own messages and the acceptor for clients, accepts connections until a flag is set,
@@ -278,8 +207,26 @@ where
     let is_noted = scope
         .spawn(move || write_notes(rt, me, dir, &notes))
         .is_ok();
-    let is_followed = scope.spawn(move || follow_peers(context, over)).is_ok();
+    let is_followed = scope.spawn(move || follow(context, over)).is_ok();
     is_served && is_noted && is_followed
+}
+
+// Follows the file of the peers until the flag is set, if there is one.
+fn follow<L: Life, Q: Lane, R, H: Hooks + Sync>(context: &Context<'_, R, H, L, Q>, over: &Flag)
+where
+    R: Machine,
+{
+    if let Some(path) = context.peers_file {
+        let follower = Follower {
+            me: context.me,
+            listen: context.listen,
+            listen_clients: context.listen_clients,
+            path,
+            shared: context.shared,
+            over,
+        };
+        follow_peers(context.rt, context.alloc, &follower);
+    }
 }
 
 // Starts what accepts connections to the port for clients, if there is one and all others were started: only a flag ends it.

@@ -2,33 +2,16 @@
 //! a node, runs it over TCP, asks one that runs, measures how quickly nodes answer, and tells what stands in a folder.
 #![tactic(auto)]
 
-mod folder;
-mod lines;
-mod loading;
-mod machinery;
-mod network;
-mod noting;
 mod running;
-mod streams;
 
 use cc_arguments::{Order, parse};
-use cc_orders::{LogLevel, RunWords, WordFault};
-use cc_play::{PlayFault, play};
-use folder::{dump, format};
-use lines::Lines;
-use loading::load;
-use network::{ask, leave, retire, status};
-use noting::NotingRuntime;
+use cc_orders::{LogLevel, RunWords};
+use cc_terminal::{
+    BAD_COMMAND_LINE, Lines, NotingRuntime, StandIns, ask, dump, format, leave, load, play_input,
+    retire, status,
+};
 use running::run;
-use std::io::BufWriter;
 use std::process::ExitCode;
-use streams::StandIns;
-
-// The command line isn't as it should be.
-const BAD_COMMAND_LINE: u8 = 2;
-
-// A fault ended the run.
-const FAULT: u8 = 1;
 
 fn main(rt: HostRuntime) -> anyhow::Result<ExitCode> {
     let stand_ins = StandIns::open(&rt)?;
@@ -87,29 +70,4 @@ fn print_error(rt: &HostRuntime, error: &clap::Error) -> anyhow::Result<ExitCode
     error.print(rt)?;
     let is_help = error.exit_code() == 0;
     Ok(ExitCode::from(if is_help { 0 } else { BAD_COMMAND_LINE }))
-}
-
-fn play_input(rt: &HostRuntime) -> anyhow::Result<ExitCode> {
-    match played(rt)? {
-        Ok(status) => Ok(ExitCode::from(status)),
-        Err(fault) => print_fault(rt, &fault),
-    }
-}
-
-// Plays standard input: the status that the script ends with.
-fn played(rt: &HostRuntime) -> anyhow::Result<Result<u8, PlayFault>> {
-    let mut output = BufWriter::new(rt.alloc(), std::io::writer(rt))?;
-    Ok(play(rt.alloc(), &mut rt.reader(), &mut output))
-}
-
-fn print_fault(rt: &HostRuntime, fault: &PlayFault) -> anyhow::Result<ExitCode> {
-    eprintln!(rt; "ccnode: {fault}")?;
-    Ok(ExitCode::from(FAULT))
-}
-
-// Prints which word isn't of its form.
-fn print_word_fault<R: Eprint>(rt: &R, fault: WordFault) -> anyhow::Result<ExitCode> {
-    eprintln!(rt; "ccnode: {fault}")?;
-    let is_bad = fault != WordFault::NoMemory;
-    Ok(ExitCode::from(if is_bad { BAD_COMMAND_LINE } else { FAULT }))
 }

@@ -1,26 +1,27 @@
 //! A node that runs.
 
-use crate::folder::{print_lost, print_trouble};
-use crate::machinery::Machinery;
-use crate::{BAD_COMMAND_LINE, FAULT, print_word_fault};
 use cc_arguments::VERSION;
 use cc_channels::Stop;
 use cc_checkpoint::OpenFault;
-use cc_commands::{Trouble, Wrong, node_in_folder};
+use cc_commands::node_in_folder;
 use cc_intake::NoHooks;
 use cc_orders::{RunOrder, RunWords, WordFault};
-use cc_server::{Config, ReadText, RunFault, run_node};
+use cc_server::{Config, RunFault, run_node};
+use cc_shared::ReadText;
+use cc_terminal::{
+    BAD_COMMAND_LINE, FAULT, Machinery, print_lost, print_trouble, print_unreadable,
+    print_word_fault, wait_for_folder,
+};
 use cc_views::NodeId;
 use crossbeam_channel::bounded;
 use log::Log;
-use std::alloc::AllocError;
 use std::fs::{File, Files};
 use std::net::{Net, TcpListener, TcpStream};
 use std::process::ExitCode;
 use std::sync::Wait;
 use std::thread::Threads;
 use std::time::{Clock, Duration};
-use std::{fs, io, thread};
+use std::{fs, thread};
 
 /// Runs the node of a folder, on a machine with a log of its own: the status of that.
 pub fn run<R, N>(
@@ -54,16 +55,6 @@ where
     }
 }
 
-/// Prints why a file of peers can't be read.
-pub fn print_unreadable<R: Eprint>(
-    rt: &R,
-    file: &str,
-    error: &io::Error,
-) -> anyhow::Result<ExitCode> {
-    eprintln!(rt; "ccnode: {file}: {error}")?;
-    Ok(ExitCode::from(BAD_COMMAND_LINE))
-}
-
 // A fault of a file of peers is told with its path.
 fn print_order_fault<R: Eprint>(
     rt: &R,
@@ -78,12 +69,6 @@ fn print_order_fault<R: Eprint>(
         _ => print_word_fault(rt, fault),
     }
 }
-
-// How often it is looked whether another program still holds the folder, and how long a pause is between two looks, in
-// milliseconds: `dump` holds it for a moment.
-const LOOKS: u64 = 10;
-
-const PAUSE_MS: u64 = 100;
 
 // How long the fault that ended the node waits for who reads standard output, in milliseconds.
 const FAULT_MS: u64 = 500;
@@ -132,27 +117,6 @@ where
         Ok(_) => Ok(ExitCode::SUCCESS),
         Err(fault) => print_run_fault(rt, folder, fault),
     }
-}
-
-// Waits for a second at most while another program holds the folder.
-fn wait_for_folder<R, N>(rt: &R, machine: &N, folder: &str) -> Result<(), AllocError>
-where
-    R: Files<File = File> + AllocGlobal,
-    N: Clock,
-{
-    for _ in 0..LOOKS {
-        let trouble = Trouble::at(rt, rt.alloc(), folder)?;
-        let is_held = match &trouble {
-            Some(trouble) => trouble.wrong == Wrong::Held,
-            None => false,
-        };
-        drop(trouble);
-        if !is_held {
-            break;
-        }
-        thread::sleep(machine, Duration::from_millis(PAUSE_MS));
-    }
-    Ok(())
 }
 
 // What a node is run with: what an order has of it, without that node among its peers.

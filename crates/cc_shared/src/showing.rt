@@ -1,14 +1,14 @@
 //! What the flusher counts, and what it lays out of its node for those who look at it.
 
+use crate::known::Stranger;
 use crate::looking::wait_of;
 use crate::notes::Note;
 use crate::shared::Shared;
 use cc_channels::PeerChannel;
-use cc_flush::{Flusher, Opened};
 use cc_links::LinkRow;
-use cc_node::Core;
+use cc_node::{Core, Node};
 use cc_protocol::AskName;
-use cc_site::Site;
+use cc_site::Side;
 use cc_status::{BATCH_BOUNDS, Counted, DiskShown, PeerNote, Shown};
 use cc_views::{NoMemory, NodeId};
 use cc_watch::Laid;
@@ -19,6 +19,12 @@ use std::sync::Wait;
 const MANY_SESSIONS: usize = 200;
 
 const ALL_SESSIONS: usize = 256;
+
+// From how many microseconds on a sync is noted.
+const SLOW_US: u64 = 1_000_000;
+
+// How many strangers are noted in a second at most.
+const MOST_STRANGERS: u64 = 64;
 
 /// What the flusher has counted since the start, and what it saw last.
 #[derive(Drop)]
@@ -40,15 +46,15 @@ pub struct Tally {
 }
 
 impl Tally {
-    /// What an engine that was opened begins with.
-    pub fn new(opened: Opened, core: &Core) -> Self {
+    /// What an engine begins with that was opened with so many records behind its state, which hold so many events.
+    pub fn new(side_records: u64, side_events: u64, core: &Core) -> Self {
         Tally {
             commits: 0,
             events: 0,
             batches: [0; 7],
             checkpoints: 0,
-            side_records: opened.records,
-            side_events: opened.events,
+            side_records,
+            side_events,
             round: None,
             round_since: 0,
             is_joined: core.is_joined(),
@@ -76,8 +82,19 @@ impl Tally {
         self.side_events = 0;
     }
 
-    /// A second has passed: what has changed in the node's standing, and that few sessions are left, is noted.
-    pub fn pass_second<R: Wait>(&mut self, rt: &R, core: &Core, shared: &Shared) {
+    /// How the side in use stands that has this generation and so many bytes.
+    pub fn disk(&self, side: Side, generation: u64, bytes: u64) -> DiskShown {
+        DiskShown {
+            side,
+            generation,
+            bytes,
+            records: self.side_records,
+            events: self.side_events,
+        }
+    }
+
+    // A second has passed: what has changed in the node's standing, and that few sessions are left, is noted.
+    fn pass_second<R: Wait>(&mut self, rt: &R, core: &Core, shared: &Shared) {
         let round = wait_of(core.phase()).map(|waiting| waiting.asked);
         if round != self.round {
             self.round = round;
@@ -118,40 +135,68 @@ impl Tally {
     }
 }
 
-/// Lays out the node of an engine for those who look at it. Where memory is refused, what was laid out before stays.
-pub fn show<S: Site, R: Wait>(
+/// A second has passed: what is seen of it is noted, and the node is laid out for those who look at it, as it stands on the
+/// disk.
+pub fn pass_second<R: Wait>(
     rt: &R,
     alloc: Global,
-    engine: &Flusher<S>,
+    node: &Node,
+    disk: DiskShown,
+    tally: &mut Tally,
+    shared: &Shared,
+) {
+    let slowest = shared.gauges.take_slowest();
+    if slowest >= SLOW_US {
+        shared.notes.put(rt, Note::SlowSync(slowest));
+    }
+    note_strangers(rt, shared);
+    tally.pass_second(rt, node.core(), shared);
+    show(rt, alloc, node, disk, tally, shared);
+}
+
+// Notes which nodes were heard of that still aren't among the peers.
+fn note_strangers<R: Wait>(rt: &R, shared: &Shared) {
+    for _ in 0..MOST_STRANGERS {
+        let Some(stranger) = shared.known.next_stranger(rt, shared.seconds()) else {
+            return;
+        };
+        if shared.channel_to(stranger.node).is_none() {
+            let Stranger { node, from, .. } = stranger;
+            shared.notes.put(rt, Note::Stranger(node, from));
+        }
+    }
+}
+
+// Lays out the node for those who look at it. Where memory is refused, what was laid out before stays.
+fn show<R: Wait>(
+    rt: &R,
+    alloc: Global,
+    node: &Node,
+    disk: DiskShown,
     tally: &Tally,
     shared: &Shared,
 ) {
     if let Some(board) = &shared.board {
-        if let Ok(laid) = laid(rt, alloc, engine, tally, shared) {
+        if let Ok(laid) = laid(rt, alloc, node, disk, tally, shared) {
             board.lay(alloc, laid);
         }
     }
 }
 
-fn laid<S: Site, R: Wait>(
+fn laid<R: Wait>(
     rt: &R,
     alloc: Global,
-    engine: &Flusher<S>,
+    node: &Node,
+    disk: DiskShown,
     tally: &Tally,
     shared: &Shared,
 ) -> Result<Laid, NoMemory> {
-    let peers = peer_notes(rt, alloc, engine.twin().core(), shared)?;
+    let peers = peer_notes(rt, alloc, node.core(), shared)?;
     Ok(Laid {
-        shown: Shown::of(alloc, engine.twin())?,
+        shown: Shown::of(alloc, node)?,
         now: shared.now(),
         round_since: tally.round_since,
-        disk: DiskShown {
-            side: engine.side(),
-            generation: engine.generation(),
-            bytes: engine.used(),
-            records: tally.side_records,
-            events: tally.side_events,
-        },
+        disk,
         peers,
         counted: tally.counted(shared),
     })

@@ -1,12 +1,21 @@
 //! What is done with the folder of a node.
 
-use crate::print_word_fault;
+use crate::statuses::print_word_fault;
 use cc_commands::{
-    BadOpening, DumpScope, FormatOrder, Lost, Trouble, Warning, dump_folder, format_folder,
+    BadOpening, DumpScope, FormatOrder, Lost, Trouble, Warning, Wrong, dump_folder, format_folder,
 };
 use cc_orders::FormatWords;
+use std::alloc::AllocError;
 use std::fs::{File, Files};
 use std::process::ExitCode;
+use std::thread;
+use std::time::{Clock, Duration};
+
+// How often it is looked whether another program still holds the folder, and how long a pause is between two looks, in
+// milliseconds: `dump` holds it for a moment.
+const LOOKS: u64 = 10;
+
+const PAUSE_MS: u64 = 100;
 
 /// Formats a folder: the status of that. What the operator may not want is told on standard error, and so is why it isn't
 /// formatted.
@@ -89,4 +98,25 @@ pub fn print_trouble<R: Files<File = File> + AllocGlobal + Eprint>(
         }
         None => Ok(false),
     }
+}
+
+/// Waits for a second at most while another program holds the folder.
+pub fn wait_for_folder<R, N>(rt: &R, machine: &N, folder: &str) -> Result<(), AllocError>
+where
+    R: Files<File = File> + AllocGlobal,
+    N: Clock,
+{
+    for _ in 0..LOOKS {
+        let trouble = Trouble::at(rt, rt.alloc(), folder)?;
+        let is_held = match &trouble {
+            Some(trouble) => trouble.wrong == Wrong::Held,
+            None => false,
+        };
+        drop(trouble);
+        if !is_held {
+            break;
+        }
+        thread::sleep(machine, Duration::from_millis(PAUSE_MS));
+    }
+    Ok(())
 }

@@ -1,7 +1,7 @@
 //! A load on nodes that run.
 
 use crate::network::end;
-use crate::print_word_fault;
+use crate::statuses::print_word_fault;
 use cc_load::load_nodes;
 use cc_orders::{LoadOrder, LoadWords, Operation};
 use std::net::{Net, TcpListener, TcpStream};

@@ -12,6 +12,9 @@ use std::net::SocketAddr;
 use std::sync::Wait;
 use std::{fmt, io};
 
+// Where a log's filter finds the notes, as before they had a crate of their own.
+const TARGET: &str = "cc_server::notes";
+
 // How many notes of the flusher wait at most.
 const NOTE_ROOM: usize = 256;
 
@@ -254,5 +257,5 @@ pub fn give_notice<R: Log>(rt: &R, me: NodeId, notice: &Notice<'_>) {
 }
 
 fn say<R: Log, D: Display>(rt: &R, me: NodeId, level: Level, said: &D) {
-    log!(rt; level, "node {} {said}", me.number());
+    log!(rt; target: TARGET, level, "node {} {said}", me.number());
 }

@@ -1,7 +1,6 @@
 //! What is asked of a node over TCP.
 
-use crate::running::print_unreadable;
-use crate::{BAD_COMMAND_LINE, print_word_fault};
+use crate::statuses::{BAD_COMMAND_LINE, print_unreadable, print_word_fault};
 use cc_client::{Told, ask_node, leave_node, retire_node};
 use cc_look::{look_at, reason_at};
 use cc_orders::{

@@ -1,12 +1,10 @@
 //! The file of the peers, which is read again while a node runs.
 
-use crate::context::Context;
 use crate::machine::{Machine, ReadText};
 use crate::notes::{Notice, give_notice};
 use crate::shared::Shared;
 use cc_channels::{Flag, write_peer};
 use cc_frames::Peer;
-use cc_intake::{Hooks, Lane, Life};
 use cc_views::NodeId;
 use cc_words::{LineFault, peers_in_lines};
 use log::Log;
@@ -23,15 +21,18 @@ const PAUSE_MS: u64 = 100;
 // After how many pauses the file is read.
 const PAUSES: u64 = 10;
 
-// What follows the file, and for which node.
+/// What follows the file of the peers.
 #[derive(Drop)]
-struct Follower<'x> {
-    me: NodeId,
-    listen: SocketAddr,
-    listen_clients: Option<SocketAddr>,
-    path: &'x str,
-    shared: &'x Shared,
-    over: &'x Flag,
+pub struct Follower<'x> {
+    /// The node, and where it listens, and for clients alone, if it does.
+    pub me: NodeId,
+    pub listen: SocketAddr,
+    pub listen_clients: Option<SocketAddr>,
+    /// The file.
+    pub path: &'x str,
+    pub shared: &'x Shared,
+    /// What ends it.
+    pub over: &'x Flag,
 }
 
 impl Follower<'_> {
@@ -40,30 +41,13 @@ impl Follower<'_> {
     }
 }
 
-/// Reads the file of the peers once a second until the flag is set, if there is one. A text is taken once it stood there at two
-/// readings, since who writes it may not be done at the first: peers that are new get a channel and a writer, and those at
-/// another address are connected to there. No peer goes, and a text with a fault changes nothing.
-pub fn follow_peers<L: Life, Q: Lane, R, H: Hooks + Sync>(
-    context: &Context<'_, R, H, L, Q>,
-    over: &Flag,
-)
+/// Reads the file of the peers once a second until the flag is set. A text is taken once it stood there at two readings, since
+/// who writes it may not be done at the first: peers that are new get a channel and a writer, and those at another address are
+/// connected to there. No peer goes, and a text with a fault changes nothing.
+pub fn follow_peers<R>(rt: &R, alloc: Global, follower: &Follower<'_>)
 where
     R: Machine,
 {
-    let Some(path) = context.peers_file else {
-        return;
-    };
-    let rt = context.rt;
-    let alloc = context.alloc;
-    let follower = Follower {
-        me: context.me,
-        listen: context.listen,
-        listen_clients: context.listen_clients,
-        path,
-        shared: context.shared,
-        over,
-    };
-    let follower = &follower;
     thread::scope(
         thread::scope_env(),
         rt,

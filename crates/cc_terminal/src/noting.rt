@@ -2,7 +2,7 @@
 
 use crate::lines::Lines;
 use cc_orders::LogLevel;
-use cc_server::ReadText;
+use cc_shared::ReadText;
 use jiff::Timestamp;
 use log::kv::Source;
 use log::span::Spans;

@@ -2,7 +2,6 @@
 
 use crate::known::Known;
 use crate::notes::{Note, NoteChannel, note_channel};
-use crate::run_fault::RunFault;
 use cc_channels::{
     Connections, FarEnd, Flag, Grants, OwnChannel, PeerChannel, PeerChannels, Waker, channels_to,
     own_channel,
@@ -23,12 +22,15 @@ use std::sync::{Mutex, OnceLock, Wait};
 pub struct Shared {
     /// The node, once its folder was read.
     pub me: OnceLock<NodeId>,
+    /// The connections that others opened, and the channels to the peers and to itself.
     pub connections: Connections,
     pub channels: PeerChannels,
     pub own: OwnChannel,
+    /// What wakes the flusher.
     pub waker: Waker,
     /// The nodes that were heard of.
     pub known: Known,
+    /// What the flusher is asked to put out again.
     pub wishes: Mutex<Wishes>,
     /// Which wishes of sessions were granted.
     pub grants: Grants,
@@ -56,7 +58,9 @@ pub struct Shared {
 /// The other ends: what a thread takes out of.
 #[derive(Drop)]
 pub struct Inlets {
+    /// What the flusher sleeps by.
     pub parker: Parker,
+    /// What the writers to the peers, the worker of the own messages and the writer of notes take out of.
     pub far: Vec<FarEnd>,
     pub own: Receiver<Option<Event>>,
     pub notes: Receiver<Option<Note>>,
@@ -155,14 +159,14 @@ impl Shared {
         peers: &[Peer],
         board: Option<Board>,
         now: u64,
-    ) -> Result<(Self, Inlets), RunFault> {
+    ) -> Result<(Self, Inlets), NoMemory> {
         let Ok(tables) = Tables::new(alloc) else {
             drop(board);
-            return Err(RunFault::NoMemory);
+            return Err(NoMemory);
         };
         let Ok((ways, inlets)) = Ways::new(alloc, peers) else {
             drop((board, tables));
-            return Err(RunFault::NoMemory);
+            return Err(NoMemory);
         };
         Ok((Shared::of(alloc, tables, ways, board, now), inlets))
     }
