@@ -5,12 +5,12 @@ ghost use Rattle.cc_messages.specs.declared.event.Event.{Event};
 ghost use Rattle.cc_site.specs.declared.site.Side.{Side as SideValue};
 ghost use Rattle.cc_site.specs.Sides.{other, settled, written};
 ghost use Rattle.cc_views.specs.Limits.{counter_limit};
-ghost use Rattle.cc_node.specs.Node.{Node, after};
+ghost use Rattle.cc_node.specs.Node.{Node};
 ghost use Rattle.cc_sides.specs.Sides.{OPEN, IsArmed};
 ghost use Rattle.cc_journal.specs.Journals.{StaysGood};
 ghost use Rattle.cc_flush.specs.Flushing.{LeadsTo};
 ghost use Rattle.cc_flush.specs.Moving.{Moves};
-ghost use Rattle.cc_flush.specs.Reopening.{IsAnew, IsArmedAgain, LeadsToSite, older_of};
+ghost use Rattle.cc_flush.specs.Reopening.{IsAnew, IsArmedAgain, IsReopened, LeadsToSite, StaysDurable, older_of};
 
 use crate::back::Back;
 use crate::flusher::{CheckpointFault, Flusher};
@@ -23,18 +23,18 @@ use std::alloc::Global;
 /// Opens two sides, and writes the node that they hold anew on the other side, before anything is put. A system tells of a failed
 /// sync once, and shows what was to be written from then on, though the disk hasn't got it; a later sync succeeds and writes
 /// nothing. So what is read may be missing on the disk until it is written once more. At each moment a crash leaves two sides that
-/// stand for the node. The faults are those of `Flusher::open`, and Device where a call fails that writes.
+/// stand for the node after a prefix of its events that has the durable ones, also where a life was killed between a write and its
+/// sync; at the end all events that were found are durable. The faults are those of `Flusher::open`, and Device where a call fails
+/// that writes.
 pub fn open_anew<S: Site>(alloc: Global, site: S) -> Result<(Flusher<S>, Core), Back<S, OpenFault>>
     ensures anew { S.honest site → IfOk result (λ opened. IsAnew S.Site opened.0) }
     ensures engine { IfOk result (λ opened. (opened.0.failed ≡ None) × (opened.0.owes ≡ false) × (opened.1 ≡ opened.0.twin.core)) }
     ensures outlet { MatchResult result
         (λ opened. (S.tells site ↔ S.tells opened.0.site) × (S.sent opened.0.site ≡ S.sent site))
         (λ b. (S.tells site ↔ S.tells b.site) × (S.sent b.site ≡ S.sent site)) }
-    // From every history that led to the sides, and holds on both of them where both are armed.
-    ensures good { S.honest site → MatchResult result (λ opened. StaysGood S.Site (LeadsToSite S.Site site) site opened.0.site)
-        (λ b. StaysGood S.Site (LeadsToSite S.Site site) site b.site) }
-    ensures node { S.honest site → (start : Node) (events : List Event) (opening : ℕ) → LeadsToSite S.Site site start events opening
-        → IfOk result (λ opened. opened.0.twin ≡ after start events) }
+    ensures good { S.honest site → MatchResult result (λ opened. StaysDurable S.Site site opened.0.site) (λ b. StaysDurable S.Site site b.site) }
+    ensures node { S.honest site → (start : Node) (events : List Event) (durable opening : ℕ) → LeadsToSite S.Site site start events durable opening
+        → IfOk result (λ opened. IsReopened S.Site opened.0 start events durable opening) }
 {
     one_node();
     let mut site = site;
@@ -80,7 +80,7 @@ fn write_anew<S: Site>(engine: &mut Flusher<S>) -> Result<(), DeviceFault>
 fn arm_again<S: Site>(site: &mut S) -> Result<(), OpenFault>
     ensures honest { S.honest site.old ↔ S.honest site.new }
     ensures outlet { (S.tells site.old ↔ S.tells site.new) × (S.sent site.new ≡ S.sent site.old) }
-    ensures good { S.honest site.old → StaysGood S.Site (LeadsToSite S.Site site.old) site.old site.new }
+    ensures good { S.honest site.old → StaysDurable S.Site site.old site.new }
     ensures armed { S.honest site.old → OnOk result (IsArmedAgain (S.state site.old) (S.state site.new)) }
 {
     let first = peek(site, Side::A)?;
@@ -108,7 +108,7 @@ fn write_gate_again<S: Site>(site: &mut S, older: Side) -> Result<(), DeviceFaul
     ensures honest { S.honest site.old ↔ S.honest site.new }
     ensures outlet { (S.tells site.old ↔ S.tells site.new) × (S.sent site.new ≡ S.sent site.old) }
     ensures good { S.honest site.old → ((side : SideValue) → IsArmed (S.state site.old side).bytes)
-        → StaysGood S.Site (LeadsToSite S.Site site.old) site.old site.new }
+        → StaysDurable S.Site site.old site.new }
     ensures written { S.honest site.old
         → OnOk result (S.state site.new (other older) ≡ settled (written (S.state site.old (other older)) 0 (OPEN ∷ []))) }
 {

@@ -33,7 +33,7 @@ returns-in_err-write_gate_again-clause-good g c h =
     let two = c.peek-2.ensures.reads in
     let new = c.write_gate_again.new.site in
     let h1 = one.keeps_honesty.0 h in
-    looked_stays g.S.Site old c.peek.new.site c.peek-2.new.site new h met.may_read (met.only_now old h)
+    looked_stays g.S.Site old c.peek.new.site c.peek-2.new.site new h (met.only_now old h)
     (met.counts_now new (c.write_gate_again.ensures.honest.0 (two.keeps_honesty.0 h1))) one two
     c.in_ok-first.first c.in_ok-second.second c.in-Some.older (c.in_ok-first.ensures.exact h) (c.in_ok-second.ensures.exact h1)
     (sym c.in-Some.is ∙ c.older_of.ensures) c.write_gate_again.ensures.good
@@ -46,7 +46,7 @@ returns-in_ok-write_gate_again-clause-good g c h =
     let two = c.peek-2.ensures.reads in
     let new = c.write_gate_again.new.site in
     let h1 = one.keeps_honesty.0 h in
-    looked_stays g.S.Site old c.peek.new.site c.peek-2.new.site new h met.may_read (met.only_now old h)
+    looked_stays g.S.Site old c.peek.new.site c.peek-2.new.site new h (met.only_now old h)
     (met.counts_now new (c.write_gate_again.ensures.honest.0 (two.keeps_honesty.0 h1))) one two
     c.in_ok-first.first c.in_ok-second.second c.in-Some.older (c.in_ok-first.ensures.exact h) (c.in_ok-second.ensures.exact h1)
     (sym c.in-Some.is ∙ c.older_of.ensures) c.write_gate_again.ensures.good
