@@ -30,6 +30,8 @@ mod Knowing
 mod Answering
 mod OneRound
 mod Regularity
+mod DoubleCollecting
+mod Linearizing
 mod Counting
 mod Staying
 mod Steady

@@ -11,3 +11,4 @@ pub mod Progress
 pub mod Regular
 pub mod Fixed
 pub mod ReadBack
+pub mod DoubleCollects

@@ -3,6 +3,7 @@
 #![tactic(auto)]
 
 mod clusters;
+mod double_collects;
 mod histories;
 mod lives;
 mod living;
@@ -10,6 +11,7 @@ mod regular;
 mod rounds;
 
 pub use clusters::cluster_agrees;
+pub use double_collects::equal_collects_are_a_snapshot;
 pub use histories::{one_line, outputs_have_events, views_follow};
 pub use lives::{
     crashes_end_lives, history_is_accepted, lives_hold, lives_join, moments_end_lives,

@@ -102,8 +102,8 @@ pub fn shared_nodes_tell_readings()
 
 /// The premises of `members_collect_regularly` can be met: two nodes that stay the only members store and collect. Node 1 is
 /// asked to store, in session 7, and is answered; node 2 hadn't been asked by then in session 9, is asked to collect, and is
-/// answered. Meanwhile another ask waits at node 2, with a share of 32. Node 1 lets what it posted to node 2 lapse, and posts a
-/// snapshot; node 2 hears that at a gap, crashes before it is durable, and hears it again.
+/// answered. Meanwhile node 2 accepts another ask, with a share of 32; node 1 lets what it posted to node 2 lapse, and posts a
+/// snapshot; and node 2 crashes.
 pub fn two_nodes_collect()
     ensures { (c mid d : Cluster) × (first second : List (ℕ × Move)) × (v : ViewMap) × IsFreshCluster c × Run c first mid × Run mid second d
         × IsFixedCluster (1 ∷ 2 ∷ []) c × AllByRecursion (λ move. Stays move.1) first × AllByRecursion (λ move. Stays move.1) second
