@@ -1,6 +1,6 @@
 //! Where a worker's events wait until the node has room for them.
 
-ghost use Rattle.std.specs.Prelude.{OnErr};
+ghost use Rattle.std.specs.Prelude.{◌≡◌, true, OnOk, OnErr};
 
 use crate::admission::{Admission, NotAdmitted};
 use crate::connections::{Connection, Connections};
@@ -14,21 +14,29 @@ use std::sync::atomic::{AtomicU64, Ordering};
 
 /// Where an event waits until the node has room for it.
 pub trait Admitting {
+    ghost use Rattle.std.specs.Prelude.{Bool};
+    ghost use Rattle.cc_messages.specs.declared.event.Event.{Event};
+
     /// That an event that waits can be turned away.
     ghost may_turn_away: { Type 0 };
 
     /// Whether such an event may come over the connection at all.
-    fn may_bring(&self, event: &Event) -> bool;
+    ghost may_come: { Self → Event → Bool };
 
-    /// Waits until the event may be handed over, and takes a permit for it, or says why it got none. One that the server objects to
-    /// is turned away where one can be.
+    /// Whether such an event may come over the connection at all.
+    fn may_bring(&self, event: &Event) -> bool
+        ensures { result ≡ may_come self.now event.now };
+
+    /// Waits until the event may be handed over, and takes a permit for it, or says why it got none. One that may not come over the
+    /// connection gets none, and one that the server objects to is turned away where one can be.
     fn admit<R: Wait>(
         &self,
         rt: &R,
         event: &Event,
         objection: Option<Objection>,
     ) -> Result<(), NotAdmitted>
-        ensures { OnErr result may_turn_away };
+        ensures turned_away { OnErr result may_turn_away }
+        ensures may_come { OnOk result (may_come self.now event.now ≡ true) };
 }
 
 /// The permits of a node for what comes over one connection.
@@ -76,8 +84,11 @@ impl<'a, F: Flushed> ConnectionAdmission<'a, F> {
 
 impl<F: Flushed> Admitting for ConnectionAdmission<'_, F> {
     ghost use Rattle.std.specs.Prelude.{⊤};
+    ghost use Rattle.cc_protocol.specs.Access.{allows};
 
     ghost may_turn_away = { ⊤ };
+
+    ghost may_come = { λ a e. allows a.admitted.access e };
 
     fn may_bring(&self, event: &Event) -> bool {
         self.admitted.access.allows(event)
