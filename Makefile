@@ -3,7 +3,7 @@
     cluster load kill-cluster soak soak-absent hostile closed-streams dead-member refused-flood stray-frames many-sessions \
     stale-collects costs worked-rows trusted links beside look look-picture hostile-status mistakes deb test-systemd \
     tls-cluster clients page-bytes one-session half-close idle-cluster power-cut slow-readers full-pipe operator-places many-nodes \
-    upgrade chain
+    upgrade chain first-store
 
 # Plays the script that ships with the program before any proof.
 try:
@@ -192,6 +192,11 @@ half-close:
 idle-cluster:
 	@$(BUILD) ccnode
 	@python3 tools/idle_cluster.py crates/ccnode/out/ccnode
+
+# Kills a node and starts it again, twelve times, and times the first store that it is asked then: half a minute.
+first-store:
+	@$(BUILD) ccnode
+	@python3 tools/first_store.py crates/ccnode/out/ccnode
 
 # Has a sync of a node fail once, starts it again, and gives it what a power cut leaves: what it answered has to be there.
 # Three minutes; TIMES=5 does more. It needs a C compiler.

@@ -21,21 +21,14 @@ import chain
 import costs
 
 
-def read_lines():
-    """The line of each crate in crates.txt."""
-    with open("crates.txt", encoding="utf-8") as it:
-        lines = [line for line in it if ":" in line.partition("#")[0]]
-    return {line.partition(":")[0].strip(): line for line in lines}
-
-
-def below(program, lines):
+def whole(program):
     """A program and the crates of this repository that it stands on."""
-    found, left = {}, [program]
+    below, found, left = chain.crates_below(), set(), [program]
     while left:
         crate = left.pop()
-        if crate in lines and crate not in found:
-            found[crate] = lines[crate]
-            left += lines[crate].partition("#")[0].partition(":")[2].split()
+        if crate not in found:
+            found.add(crate)
+            left += below[crate]
     return found
 
 
@@ -57,8 +50,10 @@ def copy_tree(crates, copy):
     """Copies these crates to the top of a repository of their own."""
     os.mkdir(f"{copy}/.git")
     shutil.copy("HANDLES", copy)
+    with open("crates.txt", encoding="utf-8") as it:
+        lines = [line for line in it if line.partition("#")[0].partition(":")[0].strip() in crates]
     with open(f"{copy}/crates.txt", "w", encoding="utf-8") as it:
-        it.writelines(crates.values())
+        it.writelines(lines)
     for crate in crates:
         leave = shutil.ignore_patterns("out", "must-fail", "more-edits")
         shutil.copytree(f"crates/{crate}", f"{copy}/crates/{crate}", ignore=leave)
@@ -156,12 +151,10 @@ def build(programs, crates):
 
 def main(programs):
     os.chdir(os.path.dirname(os.path.dirname(os.path.abspath(__file__))))
-    lines = read_lines()
     if not programs or not all(os.path.isfile(f"crates/{it}/src/main.rt") for it in programs):
         sys.exit("say which programs of crates/: build.py PROGRAM..")
-    wanted = [it for it in programs if not is_built(it, below(it, lines))]
-    crates = {crate: line for it in wanted for crate, line in below(it, lines).items()}
-    return build(wanted, crates) if wanted else 0
+    wanted = [it for it in programs if not is_built(it, whole(it))]
+    return build(wanted, set().union(*map(whole, wanted))) if wanted else 0
 
 
 if __name__ == "__main__":

@@ -1,11 +1,12 @@
 #!/usr/bin/env python3
 """Computes the longest chain of crates that the proof of the program waits for, and fails where it has grown.
 
-docs/GATE.md has a table of crates: the seconds of a processor that each took when it was measured, and the lines of code and
-proofs that it had then. A crate that has more or fewer lines now is reckoned to take as many seconds for each line; one that
-isn't in the table yet, as many as all crates together. A crate starts when all that it stands on is proved, so a program takes
-no less than its longest chain. The status is 1 where the chain of ccnode is more than a twentieth longer than the page allows,
-where the table has other crates than crates.txt, or where its third column isn't the chain.
+docs/GATE.md has a table of crates: the seconds of a processor that each took when it was measured, how many of them its proof
+and its tests' proof took, and the lines of code and proofs that it had then. A crate that has more or fewer lines now is
+reckoned to take as many seconds for each line; one that isn't in the table yet, as many as all crates together. A crate starts
+when all that it stands on is proved, and waits for no edit, so a program takes no less than its longest chain of proofs. The
+status is 1 where the chain of ccnode is more than a twentieth longer than the page allows, where the table has other crates
+than crates.txt, or where its fourth column isn't the chain.
 
     chain.py               looks, and prints the chain
     chain.py --table FILE  prints the table anew, with the seconds of a table that `make costs` printed"""
@@ -16,8 +17,9 @@ import sys
 
 PAGE = "docs/GATE.md"
 PROGRAM = "ccnode"
-ROW = re.compile(r"^\| `(\w+)` \| ([\d,]+) \| ([\d,]+) \| ([\d,]+) \|", re.MULTILINE)
-COST = re.compile(r"^\| `(\w+)` \|.*\| (\d+) \|$", re.MULTILINE)
+ROW = re.compile(r"^\| `(\w+)` \| ([\d,]+) \| ([\d,]+) \| ([\d,]+) \| ([\d,]+) \|", re.MULTILINE)
+# A crate's proof, its tests, edits and code, and all of these.
+COST = re.compile(r"^\| `(\w+)` \| *(\d*) \| *(\d*) \| *\d* \| *\d* \| (\d+) \|$", re.MULTILINE)
 ALLOWED = re.compile(r"The longest chain may take \*\*([\d,]+) seconds\*\*")
 MORE = 1.05
 
@@ -51,17 +53,17 @@ def lines_of(crate):
 
 
 def measured():
-    """The seconds, the chain and the lines of each crate of the page's table."""
+    """The seconds, those of its proofs, the chain and the lines of each crate of the page's table."""
     return {crate: tuple(map(number, row)) for crate, *row in ROW.findall(read(PAGE))}
 
 
 def seconds_now(below, table):
-    """The seconds that each crate is reckoned to take now."""
-    whole = sum(seconds for seconds, _, _ in table.values()) / max(sum(lines for _, _, lines in table.values()), 1)
+    """The seconds that the proofs of each crate are reckoned to take now."""
+    whole = sum(proof for _, proof, _, _ in table.values()) / max(sum(lines for *_, lines in table.values()), 1)
     reckoned = {}
     for crate in below:
-        seconds, _, lines = table.get(crate, (whole, 0, 1))
-        reckoned[crate] = seconds * lines_of(crate) / max(lines, 1)
+        _, proof, _, lines = table.get(crate, (0, whole, 0, 1))
+        reckoned[crate] = proof * lines_of(crate) / max(lines, 1)
     return reckoned
 
 
@@ -80,12 +82,13 @@ def chains(below, seconds):
 
 
 def print_table(costs, below):
-    seconds = {crate: float(cost) for crate, cost in COST.findall(costs) if crate in below}
-    found = chains(below, seconds)
-    print("| Crate | Seconds | With the longest chain below | Lines |\n|---|---|---|---|")
+    rows = {crate: (int(proof or 0) + int(tests or 0), int(whole)) for crate, proof, tests, whole in COST.findall(costs) if crate in below}
+    found = chains(below, {crate: proof for crate, (proof, _) in rows.items()})
+    print("| Crate | Seconds | Its proof | With the longest chain below | Lines |\n|---|---|---|---|---|")
     for crate in below:
-        print(f"| `{crate}` | {seconds[crate]:,.0f} | {found[crate][1]:,.0f} | {lines_of(crate):,} |")
-    print(f"{sum(seconds.values()):,.0f} seconds in all")
+        proof, whole = rows[crate]
+        print(f"| `{crate}` | {whole:,} | {proof:,} | {found[crate][1]:,} | {lines_of(crate):,} |")
+    print(f"{sum(whole for _, whole in rows.values()):,} seconds in all")
 
 
 def faults_of(table, below):
@@ -95,8 +98,8 @@ def faults_of(table, below):
     for crate in sorted(set(table) - set(below)):
         yield f"{PAGE} has a row of {crate}, which isn't in crates.txt"
     if set(below) == set(table):
-        found = chains(below, {crate: row[0] for crate, row in table.items()})
-        for crate, (_, chain, _) in table.items():
+        found = chains(below, {crate: row[1] for crate, row in table.items()})
+        for crate, (_, _, chain, _) in table.items():
             if abs(found[crate][1] - chain) > ROUNDED:
                 yield f"{PAGE} says {chain} for the chain to {crate}: it is {found[crate][1]}"
 

@@ -1,4 +1,5 @@
-//! Who gets an answer to a query, and who is told that it needn't wait for it.
+//! Who gets an answer to a query, and who is told that it needn't wait for it; and that a node which is started again tells it
+//! anew before anything else.
 
 use crate::clients::sent;
 use crate::nodes::{Place, format_member_of, free_place, run, while_one_runs};
@@ -29,15 +30,21 @@ const LONGEST: usize = 64;
 
 const ACK: u8 = 2;
 
-// The next frame that is no acknowledgement, with zeros behind it.
+// The next frame, with zeros behind it.
 fn next_frame<R: Abort>(rt: &R, stream: &mut TcpStream) -> [u8; LONGEST] {
+    let mut length = [0; 4];
+    stream.read_exact(&mut length).expect(rt, "a length");
+    let mut body = [0; LONGEST];
+    let len = u32::from_be_bytes(length) as usize;
+    assert!(rt; len <= LONGEST, "a short frame");
+    stream.read_exact(&mut body[..len]).expect(rt, "a body");
+    body
+}
+
+// The next frame that is no acknowledgement.
+fn next_post<R: Abort>(rt: &R, stream: &mut TcpStream) -> [u8; LONGEST] {
     for _ in 0..100 {
-        let mut length = [0; 4];
-        stream.read_exact(&mut length).expect(rt, "a length");
-        let mut body = [0; LONGEST];
-        let len = u32::from_be_bytes(length) as usize;
-        assert!(rt; len <= LONGEST, "a short frame");
-        stream.read_exact(&mut body[..len]).expect(rt, "a body");
+        let body = next_frame(rt, stream);
         if body[0] != ACK {
             return body;
         }
@@ -55,6 +62,14 @@ fn ask_as_2<R: Abort + Net<Stream = TcpStream>>(
     let (mut to_2, _) = second.listener.accept().expect(rt, "a connection");
     let (mut to_3, _) = third.listener.accept().expect(rt, "a connection");
     let _from_2 = sent(rt, node, &QUERY_OF_2);
+    assert!(rt; next_post(rt, &mut to_2).starts_with(&REPLY));
+    assert!(rt; next_post(rt, &mut to_3).starts_with(&SKIP));
+}
+
+// Neither peer has acknowledged the answer. Each is told of it first, before the sign of life of the first second.
+fn hear_anew<R: Abort + Net<Stream = TcpStream>>(rt: &R, second: &Place, third: &Place) {
+    let (mut to_2, _) = second.listener.accept().expect(rt, "a connection");
+    let (mut to_3, _) = third.listener.accept().expect(rt, "a connection");
     assert!(rt; next_frame(rt, &mut to_2).starts_with(&REPLY));
     assert!(rt; next_frame(rt, &mut to_3).starts_with(&SKIP));
 }
@@ -62,21 +77,38 @@ fn ask_as_2<R: Abort + Net<Stream = TcpStream>>(
 #[test]
 fn an_answer_goes_to_the_node_that_asked(rt: HostRuntime) {
     format_member_of(&rt, "skipping-1", "1", "1,2,3", None);
+    let alloc = rt.alloc();
+    let second = free_place(&rt);
+    let third = free_place(&rt);
     let Place {
         listener,
         address: node,
     } = free_place(&rt);
-    let second = free_place(&rt);
-    let third = free_place(&rt);
     let peers = [(2, second.address), (3, third.address)];
     let stop = Stop::new();
-    let alloc = rt.alloc();
     while_one_runs(
         &rt,
         &stop,
         node,
         || run(&rt, alloc, "skipping-1", listener, &peers, &stop, &NoHooks),
         || ask_as_2(&rt, node, &second, &third),
+    );
+    drop((second, third));
+    // It is started again. Where the peers listen now, nobody has connected to before.
+    let second = free_place(&rt);
+    let third = free_place(&rt);
+    let Place {
+        listener,
+        address: node,
+    } = free_place(&rt);
+    let peers = [(2, second.address), (3, third.address)];
+    let stop = Stop::new();
+    while_one_runs(
+        &rt,
+        &stop,
+        node,
+        || run(&rt, alloc, "skipping-1", listener, &peers, &stop, &NoHooks),
+        || hear_anew(&rt, &second, &third),
     );
     drop((second, third));
 }
