@@ -3,7 +3,7 @@
     cluster load kill-cluster soak soak-absent hostile closed-streams dead-member refused-flood stray-frames many-sessions \
     stale-collects costs worked-rows trusted links beside look look-picture hostile-status mistakes deb test-systemd \
     tls-cluster clients page-bytes one-session half-close idle-cluster power-cut slow-readers full-pipe operator-places many-nodes \
-    upgrade chain first-store
+    upgrade chain first-store snapshots
 
 # Plays the script that ships with the program before any proof.
 try:
@@ -307,6 +307,14 @@ SCRIPTS = 10
 stale-collects:
 	@$(BUILD) ccnode
 	@python3 tools/stale_collects.py crates/ccnode/out/ccnode $(SCRIPTS)
+
+# Takes snapshots of clusters whose nodes are killed and whose messages are held back, and looks for an order of all writes and
+# snapshots. Three and five nodes, with shares 1 and 32, a minute each; SECONDS=10 is quicker, and SECONDS=rates prints how many
+# collects a snapshot takes while others write.
+snapshots: SECONDS = 60
+snapshots:
+	@$(BUILD) ccnode
+	@python3 tools/snapshots.py crates/ccnode/out/ccnode $(SECONDS)
 
 # Runs the gate from nothing, and prints what each crate cost it, in seconds of the processors: as long as the gate.
 # CRATES="cc_views cc_wire" does these crates and those that they stand on.

@@ -7,8 +7,10 @@ and checks what their clients were told.
 Three nodes, of which an operation waits for two. A program of each language has two clients at each node, and does
 OPERATIONS operations in all: writes of each kind, collects and readings. Each fiftieth operation has a deadline of a
 millisecond, and after each 400 a client is closed and another one goes on in its session. The KILLS are spread over the
-operations, one node at a time. Checked (histories.py): each write was done once, no reading lacks what was answered or read
-before it began, or has what nobody asked; the status is 1 where something isn't so. It takes some minutes.
+operations, one node at a time. Then each program runs again, for a twentieth of the operations and without kills: nine
+of ten are snapshots, which have two seconds, and one is a store. Checked (histories.py): each write was done once, no
+reading lacks what was answered or read before it began, or has what nobody asked, and of any two snapshots one is within
+the other; the status is 1 where something isn't so. It takes some minutes.
 """
 import argparse
 import random
@@ -17,7 +19,7 @@ import sys
 import time
 
 import languages
-from histories import Checker, Operation, read_log, settled
+from histories import Checker, Operation, read_log, settled, snapshots_of
 
 sys.path.insert(0, str(languages.HERE.parent / "tools"))
 sys.path.insert(0, str(languages.HERE / "python" / "src"))
@@ -27,9 +29,15 @@ from nodes import Cluster, end_on_signals, say  # noqa: E402
 
 # Of 20 operations: s store, c collect, m max, M read_max, f flag (read_flag in the first half), F read_flag, a add, S read_set.
 PLAN = "scsmcMsaFscsmcSsafcs"
+# Of 10 operations: n snapshot, s store. Beside as many writes as PLAN has no snapshot would end.
+SNAPSHOTS_PLAN = "nnnnnnnnns"
+# The run for snapshots has so many times fewer operations.
+FEWER = 20
 CLIENTS_A_NODE = 2
 # Sessions of a node are numbered from so many times its number on; the last one is this script's.
 SESSIONS_A_NODE = 100
+# Those of the run for snapshots are so many further on: a text has the number of its session, so none is stored twice.
+FURTHER_ON = 50
 # For so many seconds operations may stand still, and the clock may have jumped so far.
 PATIENCE, JUMP = 150.0, 0.001
 # A killed node stays away for so many seconds at most.
@@ -37,12 +45,12 @@ AWAY = 0.3
 
 
 class Drivers:
-    """A program of each language, with its log."""
+    """A program of each language that runs by a plan, with its log. Its sessions are so many further on."""
 
-    def __init__(self, cluster, chosen, operations):
-        self.logs = {language.name: cluster.folder / f"{language.name}.log" for language in chosen}
+    def __init__(self, cluster, chosen, plan, operations, further_on=0):
+        self.logs = {language.name: cluster.folder / f"{language.name}-{plan}.log" for language in chosen}
         clients = CLIENTS_A_NODE * len(cluster.nodes)
-        self.cluster, self.chosen = cluster, chosen
+        self.cluster, self.chosen, self.plan, self.further_on = cluster, chosen, plan, further_on
         # Of each client, rounded up.
         self.operations = -(-operations // clients)
         self.total = len(chosen) * clients * self.operations
@@ -51,18 +59,17 @@ class Drivers:
 
     def start(self):
         for place, language in enumerate(self.chosen):
-            words = [str(self.operations), PLAN, *self.clients_of(self.cluster, place)]
+            words = [str(self.operations), self.plan, *self.clients_of(place)]
             with open(self.logs[language.name], "wb") as log:
                 self.running[language.name] = subprocess.Popen(
                     [*language.driver, *words], cwd=language.folder, stdin=subprocess.DEVNULL, stdout=log
                 )
 
-    @staticmethod
-    def clients_of(cluster, place):
-        for node in cluster.nodes:
+    def clients_of(self, place):
+        for node in self.cluster.nodes:
             for client in range(CLIENTS_A_NODE):
-                session = SESSIONS_A_NODE * node + CLIENTS_A_NODE * place + client
-                yield f"{node},{cluster.address(node)},{session}"
+                session = SESSIONS_A_NODE * node + self.further_on + CLIENTS_A_NODE * place + client
+                yield f"{node},{self.cluster.address(node)},{session}"
 
     def done(self):
         """How many operations the logs have."""
@@ -72,6 +79,10 @@ class Drivers:
                 piece = log.read()
             self.read[name] = place + len(piece), lines + piece.count(b"\n")
         return sum(lines for _, lines in self.read.values())
+
+    def logged(self, name):
+        """The operations of a language: none where its program was never started."""
+        return read_log(self.logs[name]) if name in self.running else []
 
     def failed(self):
         """The programs that ended badly."""
@@ -131,21 +142,25 @@ def view_of(cluster, node):
     return Operation({**line, "start": start, "end": microseconds() + 1, "answer": rows})
 
 
-def check(drivers, views, nodes):
-    """What isn't so, and of each language what its clients did. The last views are those of all nodes at the end."""
+def check(runs, views, nodes):
+    """What isn't so, and the log of each language. The last views are those of all nodes at the end."""
     checker = Checker(nodes)
-    logs = {name: read_log(path) for name, path in drivers.logs.items()}
+    logs = {name: [operation for drivers in runs for operation in drivers.logged(name)] for name in runs[0].logs}
     operations = [operation for log in logs.values() for operation in settled(log, checker.faults)]
     checker.run([*operations, *views])
-    if sum(map(len, logs.values())) != drivers.total:
-        checker.faults.append(f"{sum(map(len, logs.values()))} operations were logged, of {drivers.total}")
+    logged, total = sum(map(len, logs.values())), sum(drivers.total for drivers in runs)
+    if logged != total:
+        checker.faults.append(f"{logged} operations were logged, of {total}")
+    for name, log in logs.items():
+        if snapshots_of(log).late and not snapshots_of(log).taken:
+            checker.faults.append(f"{name} took no snapshot: all ended by their deadline")
     for view in views[-len(nodes) :]:
         if view.answer != views[-1].answer:
             checker.faults.append(f"nodes {view.node} and {views[-1].node} collect different views at the end")
         for node, number, *_ in view.answer:
             if number != checker.asked[node].number:
                 checker.faults.append(f"node {node} has made {number} writes, and was asked {checker.asked[node].number}")
-    return checker.faults, {name: counted(log) for name, log in logs.items()}
+    return checker.faults, logs
 
 
 def counted(log):
@@ -155,29 +170,35 @@ def counted(log):
         "writes": sum(operation.is_write for operation in log),
         "deadlines while pending": late.count("pending"),
         "before anything was sent": late.count("unsent"),
+        "snapshots": snapshots_of(log).taken,
     }
 
 
 def run(cluster, chosen, operations, kills):
-    """The faults, and what the clients of each language did."""
+    """The faults, and the logs of the languages."""
     cluster.start_all()
     cluster.wait_until_ready()
     clock = time.time() - time.monotonic()
-    faults, views, drivers = [], [], Drivers(cluster, chosen, operations)
+    faults, views = [], []
+    writing = Drivers(cluster, chosen, PLAN, operations)
+    snapping = Drivers(cluster, chosen, SNAPSHOTS_PLAN, operations // FEWER, FURTHER_ON)
     try:
-        drivers.start()
-        views.extend(kill_and_start(cluster, drivers, kills))
+        writing.start()
+        views.extend(kill_and_start(cluster, writing, kills))
+        snapping.start()
+        wait_until(snapping, snapping.are_over)
     except Standstill as why:
         faults.append(str(why))
     finally:
-        drivers.end()
+        writing.end()
+        snapping.end()
     jump = abs(time.time() - time.monotonic() - clock)
     if jump > JUMP:
         faults.append(f"the clock has jumped by {jump} seconds: nothing is told by this run")
     faults.extend(f"node {node} ended: {text}" for node, text in cluster.has_ended().items())
     views.extend(view_of(cluster, node) for node in cluster.nodes)
-    found, counts = check(drivers, views, cluster.nodes)
-    return faults + found, counts
+    found, logs = check([writing, snapping], views, cluster.nodes)
+    return faults + found, logs
 
 
 def arguments():
@@ -199,12 +220,13 @@ def main():
             subprocess.run(language.build, cwd=language.folder, check=True, timeout=600)
     start = time.monotonic()
     with Cluster(words.program, 3, beta="2/3", share=words.share) as cluster:
-        faults, counts = run(cluster, chosen, words.operations, words.kills)
-    for name, of_language in counts.items():
-        say(f"{name}: " + ", ".join(f"{count} {what}" for what, count in of_language.items()))
+        faults, logs = run(cluster, chosen, words.operations, words.kills)
+    for name, log in logs.items():
+        say(f"{name}: " + ", ".join(f"{count} {what}" for what, count in counted(log).items()))
+    say(str(snapshots_of([operation for log in logs.values() for operation in log])))
     for fault in faults[:20]:
         say(f"FAULT: {fault}")
-    say(f"{words.kills} kills, {sum(of['operations'] for of in counts.values())} operations in "
+    say(f"{words.kills} kills, {sum(map(len, logs.values()))} operations in "
         f"{time.monotonic() - start:.0f} s; faults: {len(faults)}")
     sys.exit(bool(faults))
 

@@ -22,6 +22,15 @@ class Operation:
     def is_write(self):
         return self.name in ("store", "max", "flag", "add")
 
+    @property
+    def shows_rows(self):
+        return self.name in ("collect", "snapshot")
+
+    @property
+    def rows(self):
+        """What a collect or a snapshot has shown."""
+        return self.answer["rows"] if self.name == "snapshot" else self.answer
+
     def told(self, what):
         """What the line tells in place of an answer: `error`, or of which kind a `deadline` was."""
         return self.answer.get(what) if isinstance(self.answer, dict) else None
@@ -34,20 +43,23 @@ def read_log(path):
 
 def settled(operations, faults):
     """The operations that were done. A write whose deadline passed while it was pending has been done once a later call of
-    its client is answered, and may have been done at any moment until then."""
+    its client is answered or is pending itself, and may have been done at any moment until then."""
     pending = {}
     for operation in operations:
         if operation.told("error"):
             faults.append(f"{operation}: {operation.told('error')}")
-        elif operation.told("deadline") == "pending":
-            pending[operation.session] = operation
-        elif not operation.told("deadline"):
+        elif operation.told("deadline") != "unsent":
+            # It was sent, so what was pending before was settled.
             earlier = pending.pop(operation.session, None)
             if earlier is not None and earlier.is_write:
                 earlier.end = operation.end
                 yield earlier
-            yield operation
-    faults.extend(f"{operation}: nobody knows whether it was done" for operation in pending.values())
+            if operation.told("deadline"):
+                pending[operation.session] = operation
+            else:
+                yield operation
+    writes = [operation for operation in pending.values() if operation.is_write]
+    faults.extend(f"{operation}: nobody knows whether it was done" for operation in writes)
 
 
 class Values(NamedTuple):
@@ -76,7 +88,8 @@ class Values(NamedTuple):
 
 
 # What each reading tells of all nodes together.
-ASPECTS = {"collect": ("max", "flag", "set"), "read_max": ("max",), "read_flag": ("flag",), "read_set": ("set",)}
+OF_ROWS = ("max", "flag", "set")
+ASPECTS = {"collect": OF_ROWS, "snapshot": OF_ROWS, "read_max": ("max",), "read_flag": ("flag",), "read_set": ("set",)}
 
 
 class Before(NamedTuple):
@@ -111,6 +124,7 @@ class Checker:
         moments += [(operation.end, True, place) for place, operation in enumerate(operations)]
         for _, is_end, place in sorted(moments):
             (self.ends if is_end else self.begins)(operations[place])
+        self.check_snapshots([operation for operation in operations if operation.name == "snapshot"])
 
     def begins(self, operation):
         if not operation.is_write:
@@ -128,12 +142,12 @@ class Checker:
                 self.latest[node] = max(self.latest[node], operation.start)
             return
         before = self.before.pop(operation)
-        told = self.told_of_all(operation, before) if operation.name == "collect" else told_by(operation)
+        told = self.told_of_all(operation, before) if operation.shows_rows else told_by(operation)
         self.check_reading(operation, before, told)
 
     def told_of_all(self, operation, before):
-        """What a collect tells of all nodes together, once each of its rows was checked."""
-        rows = {row[0]: row[1:] for row in operation.answer}
+        """What a collect or a snapshot tells of all nodes together, once each of its rows was checked."""
+        rows = {row[0]: row[1:] for row in operation.rows}
         told = Values()
         for node in self.seen:
             number, text, *others, numbers = rows.get(node, (0, "", 0, False, ()))
@@ -173,6 +187,14 @@ class Checker:
             self.faults.append(f"{operation}: it tells a {aspect} beyond all that was asked")
         self.shown = self.shown.joined(told)
 
+    def check_snapshots(self, snapshots):
+        """Of any two snapshots one is within the other: each is within the next one by the sum of the numbers."""
+        ascending = sorted(snapshots, key=lambda snapshot: sum(numbers_of(snapshot).values()))
+        for snapshot, other in zip(ascending, ascending[1:]):
+            if not is_within(numbers_of(snapshot), numbers_of(other)):
+                shown = f"{snapshot} shows {numbers_of(snapshot)}, {other} {numbers_of(other)}"
+                self.faults.append(f"{shown}: neither is within the other")
+
     def check(self, operation, what, told, least, aspects, why):
         for aspect in told.lacks(least, aspects):
             self.faults.append(f"{operation}: {what} has less of {aspect} than {why} before it began")
@@ -182,3 +204,29 @@ def told_by(operation):
     """What a reading of all nodes together tells."""
     answer = frozenset(operation.answer) if operation.name == "read_set" else operation.answer
     return Values()._replace(**{operation.name[len("read_") :]: answer})
+
+
+def numbers_of(snapshot):
+    """The number of each node that a snapshot has shown."""
+    return {row[0]: row[1] for row in snapshot.rows}
+
+
+def is_within(numbers, others):
+    return all(number <= others.get(node, 0) for node, number in numbers.items())
+
+
+class Snapshots(NamedTuple):
+    """How many snapshots were taken, how many ended by their deadline, and how many collects one took at most."""
+
+    taken: int
+    late: int
+    most: int
+
+    def __str__(self):
+        return f"{self.taken} snapshots were taken, by {self.most} collects at most, and {self.late} ended by their deadline"
+
+
+def snapshots_of(operations):
+    told = [operation.answer for operation in operations if operation.name == "snapshot"]
+    collects = [answer["collects"] for answer in told if "collects" in answer]
+    return Snapshots(len(collects), sum("deadline" in answer for answer in told), max(collects, default=0))

@@ -2,9 +2,9 @@
 
 import unittest
 
-from histories import Checker, Operation, settled
+from histories import Checker, Operation, settled, snapshots_of
 
-STORE, COLLECT = "store", "collect"
+STORE, COLLECT, SNAPSHOT = "store", "collect", "snapshot"
 
 
 def operation(name, start, end, argument=None, answer="Stored", session=7, node=1):
@@ -13,16 +13,24 @@ def operation(name, start, end, argument=None, answer="Stored", session=7, node=
     return Operation({**line, "start": start, "end": end, "answer": answer})
 
 
-def row(number, text="", greatest=0, flag=False, numbers=()):
-    return [1, number, text, greatest, flag, list(numbers)]
+def row(number, text="", greatest=0, flag=False, numbers=(), node=1):
+    return [node, number, text, greatest, flag, list(numbers)]
 
 
 def collect(start, end, *rows):
     return operation(COLLECT, start, end, answer=list(rows), session=8)
 
 
+def snapshot(start, end, *rows, collects=2):
+    return operation(SNAPSHOT, start, end, answer={"rows": list(rows), "collects": collects}, session=9)
+
+
+def late(name, start, end, deadline, argument=None):
+    return operation(name, start, end, argument, {"deadline": deadline})
+
+
 def faults(*operations):
-    checker = Checker([1])
+    checker = Checker([1, 2])
     checker.run(list(operations))
     return checker.faults
 
@@ -86,15 +94,52 @@ class HistoriesTest(unittest.TestCase):
         stores = [operation(STORE, 10, 40, "a"), operation(STORE, 10, 40, "b")]
         self.assertNotEqual(faults(*stores, collect(11, 15, row(1, "a")), collect(16, 20, row(1, "b"))), [])
 
+    def test_a_snapshot_shows_what_a_collect_must(self):
+        write = operation(STORE, 10, 20, "a")
+        self.assertEqual(faults(write, snapshot(21, 25, row(1, "a"))), [])
+        self.assertNotEqual(faults(write, snapshot(21, 25)), [])
+        self.assertNotEqual(faults(write, snapshot(21, 25, row(2, "a"))), [])
+        write.end = 40
+        self.assertNotEqual(faults(write, snapshot(11, 12, row(1, "a")), collect(13, 14)), [])
+        self.assertNotEqual(faults(write, collect(11, 12, row(1, "a")), snapshot(13, 14)), [])
+
+    def test_of_two_snapshots_one_is_within_the_other(self):
+        stores = [operation(STORE, 10, 40, "a"), operation(STORE, 10, 40, "b", node=2)]
+        one, other = row(1, "a"), row(1, "b", node=2)
+        for right in ([one], [one, other]), ([], [other]), ([one, other], [one, other]):
+            self.assertEqual(faults(*stores, *(snapshot(11, 30, *rows) for rows in right)), [])
+        self.assertEqual(faults(*stores, collect(11, 30, one), collect(11, 30, other)), [])
+        self.assertEqual(len(faults(*stores, snapshot(11, 30, one), snapshot(11, 30, other))), 1)
+        further = [snapshot(11, 30), snapshot(11, 30, one, other)]
+        self.assertEqual(len(faults(*stores, snapshot(11, 30, one), *further, snapshot(11, 30, other))), 1)
+
+    def test_snapshots_whose_sums_differ(self):
+        stores = [operation(STORE, 10, 40, "a"), operation("max", 10, 40, 5), operation(STORE, 10, 40, "b", node=2)]
+        more, other = row(2, "a", 5), row(1, "b", node=2)
+        self.assertEqual(len(faults(*stores, snapshot(11, 30, more), snapshot(11, 30, other))), 1)
+
+    def test_what_is_told_of_snapshots(self):
+        taken = [snapshot(1, 2), snapshot(3, 4, collects=7)]
+        ended = [late(SNAPSHOT, 5, 6, "pending"), late(SNAPSHOT, 7, 8, "unsent"), late(COLLECT, 9, 10, "pending")]
+        self.assertEqual(snapshots_of([*taken, *ended, collect(1, 2)]), (2, 2, 7))
+        self.assertEqual(snapshots_of([]), (0, 0, 0))
+
     def test_a_pending_write_is_done_by_the_next_answer(self):
-        late = operation(STORE, 10, 20, "a", answer={"deadline": "pending"})
-        unsent = operation(STORE, 30, 40, "b", answer={"deadline": "unsent"})
+        pending = late(STORE, 10, 20, "pending", "a")
+        unsent = late(STORE, 30, 40, "unsent", "b")
         answered = operation("max", 50, 60, 5)
         found = []
-        self.assertEqual([done.argument for done in settled([late, unsent, answered], found)], ["a", 5])
-        self.assertEqual((late.end, found), (60, []))
-        self.assertEqual((list(settled([late], found)), len(found)), ([], 1))
+        self.assertEqual([done.argument for done in settled([pending, unsent, answered], found)], ["a", 5])
+        self.assertEqual((pending.end, found), (60, []))
+        self.assertEqual((list(settled([pending], found)), len(found)), ([], 1))
         self.assertEqual((list(settled([operation(STORE, 1, 2, "a", {"error": "x"})], found)), len(found)), ([], 2))
+
+    def test_a_pending_write_is_done_before_the_next_call_is_pending(self):
+        pending = late(STORE, 10, 20, "pending", "a")
+        snapshots = [late(SNAPSHOT, 30, 40, "pending"), late(SNAPSHOT, 50, 60, "pending")]
+        found = []
+        self.assertEqual([done.argument for done in settled([pending, *snapshots], found)], ["a"])
+        self.assertEqual((pending.end, found), (40, []))
 
 
 if __name__ == "__main__":

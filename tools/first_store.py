@@ -5,7 +5,7 @@ usage: first_store.py PROGRAM [KILLS]
 
 Three nodes with --beta 2/3. Before each kill node 1 answers stores of node 2, of which node 3 needn't hear at once. Node 1 is
 killed then, is started again, and is asked to store at once. It prints how long each of these stores took, and its status is 1
-where one took longer than a second and a half: a node sends what it kept at its start, and its peers at their next second.
+where one took longer than seven tenths of a second: each node sends again what a peer may lack once it has connected to it.
 """
 import sys
 import time
@@ -13,7 +13,7 @@ import time
 import nodes
 from nodes import Cluster, Verdicts
 
-KILLS, SECONDS = 12, 1.5
+KILLS, SECONDS = 12, 0.7
 # How many stores of node 2 node 1 answers before each kill.
 ANSWERED = 3
 

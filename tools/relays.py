@@ -5,9 +5,11 @@
 
 Each word is the way of a node to a peer: the port that the node connects to, and the one that the peer listens at. It obeys
 lines on standard input: `cut 1,2` lets nothing pass any more between these nodes and the others, and no end is told; `join`
-closes what was cut, and lets new connections pass. It ends with its input.
+closes what was cut, and lets new connections pass; `delay 40` holds each piece back from then on, for up to 40 milliseconds
+and mostly for few. It ends with its input.
 """
 import asyncio
+import random
 import sys
 
 LOOPBACK = "127.0.0.1"
@@ -17,6 +19,8 @@ PIECE = 1 << 16
 class Relays:
     def __init__(self):
         self.cut, self.flows = set(), []
+        # For how many seconds a piece is held back at most.
+        self.delay = 0.0
 
     def is_cut(self, node, peer):
         return (node in self.cut) != (peer in self.cut)
@@ -27,6 +31,8 @@ class Relays:
                 # What comes over a way that is cut is lost, and so is its connection, once the halves are joined.
                 while self.is_cut(*way):
                     await asyncio.sleep(0.05)
+                if self.delay:
+                    await asyncio.sleep(self.delay * random.random() ** 4)
                 writer.write(data)
                 await writer.drain()
         except OSError:
@@ -54,6 +60,8 @@ class Relays:
         words = line.split()
         if words[0] == "cut":
             self.cut = set(map(int, words[1].split(",")))
+        elif words[0] == "delay":
+            self.delay = int(words[1]) / 1000
         else:
             for way, flow in list(self.flows):
                 if self.is_cut(*way):

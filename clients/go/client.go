@@ -156,12 +156,7 @@ func (c *Client) call(ctx context.Context, asked command) (answer, error) {
 
 // Does the work once the calls before it have ended, in a context with a deadline that the client's end ends too.
 func (c *Client) inTurn(ctx context.Context, work func(context.Context) error) error {
-	if _, hasDeadline := ctx.Deadline(); !hasDeadline {
-		var cancel context.CancelFunc
-		ctx, cancel = context.WithTimeout(ctx, DefaultTimeout)
-		defer cancel()
-	}
-	ctx, cancel := context.WithCancel(ctx)
+	ctx, cancel := withDeadline(ctx)
 	defer cancel()
 	go func() {
 		select {
@@ -177,6 +172,14 @@ func (c *Client) inTurn(ctx context.Context, work func(context.Context) error) e
 	}
 	defer func() { c.turn <- struct{}{} }()
 	return c.clean(work(ctx))
+}
+
+// A context with the deadline of this one, or with one of DefaultTimeout.
+func withDeadline(ctx context.Context) (context.Context, context.CancelFunc) {
+	if _, hasDeadline := ctx.Deadline(); hasDeadline {
+		return context.WithCancel(ctx)
+	}
+	return context.WithTimeout(ctx, DefaultTimeout)
 }
 
 // Why a call ends whose context is done.

@@ -4,8 +4,10 @@ import (
 	"bytes"
 	"context"
 	"errors"
+	"fmt"
 	"net"
 	"reflect"
+	"strings"
 	"sync"
 	"testing"
 	"time"
@@ -23,6 +25,31 @@ const (
 var learning = []heard{{0, readFlag}, {5, readFlag}}
 
 var silence = []byte{}
+
+// Views that differ.
+var views = []string{
+	"020001" + rowBytes(1, 1, "a"),
+	"020002" + rowBytes(1, 1, "a") + rowBytes(2, 1, "b"),
+	"020002" + rowBytes(1, 2, "c") + rowBytes(2, 1, "b"),
+}
+
+// A reply with each view to requests from the first one on.
+func replies(first uint64, views ...string) [][]byte {
+	var steps [][]byte
+	for place, view := range views {
+		steps = append(steps, reply(first+uint64(place), view))
+	}
+	return steps
+}
+
+// What a node hears by collects under these numbers.
+func collectsOf(numbers ...uint64) []heard {
+	var asks []heard
+	for _, number := range numbers {
+		asks = append(asks, heard{number, collect})
+	}
+	return asks
+}
 
 // A node of whose session the last request is 4, and what it says from request 6 on.
 func newNode(t *testing.T, steps ...[]byte) *scriptedNode {
@@ -310,8 +337,7 @@ func TestGoroutinesTakeTurns(t *testing.T) {
 }
 
 func TestAWatchTellsWhatChanged(t *testing.T) {
-	one, other, changed := rowBytes(1, 1, "a"), rowBytes(2, 1, "b"), rowBytes(1, 2, "c")
-	node := newNode(t, reply(6, "020001"+one), reply(7, "020002"+one+other), reply(8, "020002"+changed+other), silence)
+	node := newNode(t, append(replies(6, views...), silence)...)
 	watch := newClient(t, node).Watch(time.Millisecond)
 	ctx := within(t, 200*time.Millisecond)
 	for _, want := range []struct {
@@ -329,4 +355,87 @@ func TestAWatchTellsWhatChanged(t *testing.T) {
 	}
 	_, err := watch.Next(ctx)
 	wantLate(t, err, true)
+}
+
+func TestASnapshotIsWhatTwoCollectsInARowShow(t *testing.T) {
+	for view, count := range map[string]int{seenNothing: 0, views[0]: 1} {
+		node := newNode(t, append(replies(6, view, view), reply(8, stored))...)
+		client := newClient(t, node)
+		taken, err := client.Snapshot(context.Background())
+		if err != nil || taken.Collects != 2 || len(taken.Rows) != count {
+			t.Errorf("%v and %v, not %d rows by 2 collects", taken, err, count)
+		}
+		store(t, client, "a")
+		node.wants(append(collectsOf(6, 7), heard{8, storeA})...)
+	}
+}
+
+func TestASnapshotCollectsUntilTwoInARowAgree(t *testing.T) {
+	rows := []Row{{Node: 1, Number: 2, Text: []byte("c")}, {Node: 2, Number: 1, Text: []byte("b")}}
+	for _, first := range views[:2] {
+		node := newNode(t, replies(6, first, views[2], views[2])...)
+		taken, err := newClient(t, node).Snapshot(context.Background())
+		if err != nil || !reflect.DeepEqual(taken, Snapshot{Rows: rows, Collects: 3}) {
+			t.Errorf("%v and %v, not %v by 3 collects", taken, err, rows)
+		}
+		node.wants(collectsOf(6, 7, 8)...)
+	}
+}
+
+func TestNoTwoCollectsInARowAgree(t *testing.T) {
+	for _, numbers := range [][]uint64{{6, 7}, {6, 7, 8}} {
+		answered := len(numbers)
+		late := 6 + uint64(answered)
+		steps := append(replies(6, views[:answered]...), silence, reply(late, views[2]), reply(late+1, stored))
+		node := newNode(t, steps...)
+		client := newClient(t, node)
+		_, err := client.Snapshot(within(t, 300*time.Millisecond))
+		wantLate(t, err, true)
+		want := fmt.Sprintf("ccnode: no two in a row of %d collects agree, since others write", answered)
+		if err == nil || err.Error() != want {
+			t.Errorf("%v, not %s", err, want)
+		}
+		store(t, client, "a")
+		node.wants(append(collectsOf(append(numbers, late, late)...), heard{late + 1, storeA})...)
+	}
+}
+
+func TestTooFewCollectsToCompare(t *testing.T) {
+	for answered := 0; answered < 2; answered++ {
+		node := newNode(t, append(replies(6, views[:answered]...), silence)...)
+		_, err := newClient(t, node).Snapshot(within(t, 200*time.Millisecond))
+		wantLate(t, err, true)
+		if err == nil || !strings.HasPrefix(err.Error(), "ccnode: no answer in time") {
+			t.Errorf("%v tells of collects that disagree", err)
+		}
+	}
+}
+
+func TestAllCollectsOfASnapshotHaveOneDeadline(t *testing.T) {
+	var differing []string
+	for number := uint64(0); number < 20_000; number++ {
+		differing = append(differing, "020001"+rowBytes(1, number, "a"))
+	}
+	node := newNode(t, replies(6, differing...)...)
+	_, err := newClient(t, node).Snapshot(within(t, 100*time.Millisecond))
+	if err == nil || !strings.HasPrefix(err.Error(), "ccnode: no two in a row of ") {
+		t.Errorf("%v, not a snapshot of which no two collects agree", err)
+	}
+	asks := node.heard()[len(learning):]
+	if len(asks) >= len(differing) {
+		t.Errorf("all %d collects were made", len(asks))
+	}
+	for place, ask := range asks {
+		if want := (heard{6 + uint64(place), collect}); ask != want {
+			t.Fatalf("the node was asked %v, not %v", ask, want)
+		}
+	}
+}
+
+func TestAConnectionThatBreaksBetweenTheCollectsOfASnapshot(t *testing.T) {
+	node := newNode(t, reply(6, views[0]), nil, reply(7, views[0]))
+	if taken, err := newClient(t, node).Snapshot(context.Background()); err != nil || taken.Collects != 2 {
+		t.Errorf("%v and %v, not 2 collects", taken, err)
+	}
+	node.wants(collectsOf(6, 7, 7)...)
 }

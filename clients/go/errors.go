@@ -95,7 +95,8 @@ func (e *MalformedError) Error() string {
 	return fmt.Sprintf("ccnode: malformed frame: %s", e.Fault)
 }
 
-// DeadlineExceededError tells that no answer came before the context was done. errors.Is finds the context's error in it.
+// DeadlineExceededError tells that no answer came before the context was done, or that no two collects in a row of a
+// snapshot agreed. errors.Is finds the context's error in it.
 type DeadlineExceededError struct {
 	// IsPending is true where what was asked may have been done, and the client's next call first asks it again until it
 	// is. Else it was never sent.
@@ -104,9 +105,14 @@ type DeadlineExceededError struct {
 	Cause error
 
 	done error
+	// How many collects of a snapshot were answered of which no two in a row agree, else 0.
+	collects int
 }
 
 func (e *DeadlineExceededError) Error() string {
+	if e.collects > 0 {
+		return fmt.Sprintf("ccnode: no two in a row of %d collects agree, since others write", e.collects)
+	}
 	return fmt.Sprintf("ccnode: no answer in time: %v", e.Cause)
 }
 

@@ -7,6 +7,8 @@ const NAME = 'javascript';
 // Milliseconds. Each fiftieth operation gets no time to speak of.
 const PATIENCE = 120_000;
 const HASTE = 1;
+// A snapshot ends by its deadline where others write all the time.
+const SNAPSHOT_PATIENCE = 2_000;
 
 const textOf = (bytes) => Buffer.from(bytes).toString();
 const rowOf = (row) => [row.node, Number(row.number), textOf(row.text), Number(row.max), row.flag, row.set];
@@ -19,6 +21,14 @@ const OPERATIONS = {
     ask: (client, text, options) => client.store(text, options),
   },
   c: { name: 'collect', ask: async (client, _, options) => (await client.collect(options)).map(rowOf) },
+  n: {
+    name: 'snapshot',
+    patience: SNAPSHOT_PATIENCE,
+    ask: async (client, _, options) => {
+      const { rows, collects } = await client.snapshot(options);
+      return { rows: rows.map(rowOf), collects };
+    },
+  },
   m: {
     name: 'max',
     argument: ({ place, session }) => 1000 * place + session,
@@ -60,9 +70,10 @@ async function drive(operations, plan, node, address, session) {
     const about = { place, session, operations };
     const operation = operationAt(plan, about);
     const argument = operation.argument?.(about) ?? null;
+    const timeout = place % 50 === 25 ? HASTE : (operation.patience ?? PATIENCE);
     // The clock has milliseconds: the start is told too early rather than too late, and the end too late.
     const start = 1000 * Date.now();
-    const answer = await answerOf(operation.ask(client, argument, { timeout: place % 50 === 25 ? HASTE : PATIENCE }));
+    const answer = await answerOf(operation.ask(client, argument, { timeout }));
     const end = 1000 * (Date.now() + 1);
     const line = { client: NAME, session, node, operation: operation.name, argument, start, end, answer };
     process.stdout.write(`${JSON.stringify(line)}\n`);

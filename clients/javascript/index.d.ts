@@ -34,7 +34,10 @@ export class ClientClosed extends CcnodeError {}
 /** Another client asks in this session, or the addresses lead to different nodes. What was asked may have been done. */
 export class SessionInUse extends CcnodeError {}
 
-/** No answer came in time, or the signal was aborted. `cause` is why the last attempt failed. */
+/**
+ * No answer came in time, the signal was aborted, or no two collects in a row of a snapshot agreed. `cause` is why the last
+ * attempt failed.
+ */
 export class DeadlineExceeded extends CcnodeError {
   /**
    * Where this is true, what was asked may have been done, and the client's next call first asks it again until it is. Else
@@ -65,6 +68,14 @@ export interface Row {
   readonly flag: boolean;
   /** Ascending. */
   readonly set: readonly number[];
+}
+
+/** What all nodes had at one moment. */
+export interface Snapshot {
+  /** As `collect` gives them. */
+  readonly rows: Row[];
+  /** How many collects it took, 2 at least. */
+  readonly collects: number;
 }
 
 /** A node's row appeared, where `old` is undefined, or changed. Rows never go away. */
@@ -104,6 +115,12 @@ export class Client {
 
   /** The last row of each node that ever wrote, by ascending node. */
   collect(options?: CallOptions): Promise<Row[]>;
+
+  /**
+   * What all nodes had at one moment: it collects until two collects in a row agree. Where others write all the time no two
+   * may agree until the deadline. A longer one gives it more tries.
+   */
+  snapshot(options?: CallOptions): Promise<Snapshot>;
 
   /** Raises this node's maximum to `number`, at most 2^64 - 1; a smaller one leaves it as it is. */
   max(number: number | bigint, options?: CallOptions): Promise<void>;

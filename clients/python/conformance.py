@@ -11,15 +11,15 @@ import pathlib
 import sys
 import threading
 import time
-from typing import Any, Callable, Dict, Tuple
+from typing import Any, Callable, Dict, List, Tuple
 
 sys.path.insert(0, str(pathlib.Path(__file__).resolve().parent / "src"))
 
 import ccnode  # noqa: E402
 
 NAME = "python"
-# Seconds. Each fiftieth operation gets no time to speak of.
-PATIENCE, HASTE = 120.0, 0.001
+# Seconds. Each fiftieth operation gets no time to speak of. A snapshot ends by its deadline where others write all the time.
+PATIENCE, HASTE, SNAPSHOT_PATIENCE = 120.0, 0.001, 2.0
 # Held by the thread that prints.
 LINES = threading.Lock()
 
@@ -31,6 +31,7 @@ def operation_of(letter: str, place: int, operations: int, session: int) -> Tupl
     return {
         "s": ("store", f"{NAME}-{session}-{place}"),
         "c": ("collect", None),
+        "n": ("snapshot", None),
         "m": ("max", 1000 * place + session),
         "M": ("read_max", None),
         "f": ("flag", None),
@@ -49,8 +50,21 @@ def ask(client: ccnode.Client, operation: str, argument: Any, timeout: float) ->
     except ccnode.CcnodeError as error:
         return {"error": repr(error)}
     if operation == "collect":
-        return [[row.node, row.number, row.text.decode(), row.max, row.flag, row.set] for row in answer]
+        return listed(answer)
+    if operation == "snapshot":
+        return {"rows": listed(answer.rows), "collects": answer.collects}
     return "Stored" if answer is None else answer
+
+
+def listed(rows: List[ccnode.Row]) -> List[Any]:
+    return [[row.node, row.number, row.text.decode(), row.max, row.flag, row.set] for row in rows]
+
+
+def timeout_of(operation: str, place: int) -> float:
+    """How long an operation at a place may take."""
+    if place % 50 == 25:
+        return HASTE
+    return SNAPSHOT_PATIENCE if operation == "snapshot" else PATIENCE
 
 
 def drive(operations: int, plan: str, node: int, address: str, session: int) -> None:
@@ -59,7 +73,7 @@ def drive(operations: int, plan: str, node: int, address: str, session: int) -> 
         operation, argument = operation_of(plan[(place + session) % len(plan)], place, operations, session)
         line: Dict[str, Any] = {"client": NAME, "session": session, "node": node, "operation": operation}
         start = time.time_ns() // 1000
-        answer = ask(client, operation, argument, HASTE if place % 50 == 25 else PATIENCE)
+        answer = ask(client, operation, argument, timeout_of(operation, place))
         end = time.time_ns() // 1000 + 1
         line.update(argument=argument, start=start, end=end, answer=answer)
         with LINES:

@@ -4,7 +4,7 @@
 _ccnode_places() {
     case $1:$2 in
         format:0 | run:0 | dump:0) compgen -d -- "$3" ;;
-        ask:2) compgen -W 'store collect max readmax flag readflag add readset' -- "$3" ;;
+        ask:2) compgen -W 'store collect snapshot max readmax flag readflag add readset' -- "$3" ;;
     esac
 }
 
@@ -12,7 +12,7 @@ _ccnode_options() {
     case $1 in
         format) echo '--initial --contacts --beta --gamma --share --help' ;;
         run) echo '--listen --listen-clients --operators --answers --peers --peers-file --status --log --help' ;;
-        ask) echo '--text --request --timeout --wait --status --json --help' ;;
+        ask) echo '--text --request --timeout --wait --snapshot --status --json --help' ;;
         status) echo '--json --watch --help' ;;
         load) echo '--clients --seconds --collects --sessions-from --json --help' ;;
         dump) echo '--node --help' ;;

@@ -1,6 +1,6 @@
 # Completion of ccnode for fish: subcommands, their options, the commands of `ask`, and folders.
 set -l subcommands play format run ask status load leave retire dump
-set -l commands store collect max readmax flag readflag add readset
+set -l commands store collect snapshot max readmax flag readflag add readset
 
 complete -c ccnode -f
 complete -c ccnode -s h -l help -d 'Print the help'
@@ -42,6 +42,7 @@ complete -c ccnode -n '__fish_seen_subcommand_from load' -l json -d 'Print what 
 complete -c ccnode -n '__fish_seen_subcommand_from ask' -l text -x -d 'A text of any bytes'
 complete -c ccnode -n '__fish_seen_subcommand_from ask' -l request -x -d 'The number of the request'
 complete -c ccnode -n '__fish_seen_subcommand_from ask' -l wait -d 'Ask again while the node has not joined'
+complete -c ccnode -n '__fish_seen_subcommand_from ask' -l snapshot -d 'Read what all nodes had at one moment'
 complete -c ccnode -n '__fish_seen_subcommand_from ask' -l status -x -d 'Where the node shows itself'
 complete -c ccnode -n '__fish_seen_subcommand_from ask' -l json -d 'Print the answer as JSON'
 complete -c ccnode -n '__fish_seen_subcommand_from ask' -l timeout -x -d 'How long it waits'

@@ -10,6 +10,7 @@ import {
   Refused,
   SessionInUse,
 } from './errors.js';
+import { takeSnapshot } from './snapshot.js';
 import { Watch } from './watch.js';
 import * as wire from './wire.js';
 
@@ -65,6 +66,11 @@ export class Client {
     return this.#call(wire.COLLECT, options);
   }
 
+  async snapshot(options) {
+    const deadline = this.#deadline(options);
+    return takeSnapshot(() => this.#callBy(deadline, wire.COLLECT));
+  }
+
   async max(number, options) {
     await this.#call(wire.writeMax(number), options);
   }
@@ -104,8 +110,15 @@ export class Client {
     await this.#inTurn(deadline, () => this.#learn(deadline));
   }
 
-  async #call(command, options = {}) {
-    const deadline = new Deadline(milliseconds(options.timeout ?? this.#timeout), options.signal);
+  #deadline(options = {}) {
+    return new Deadline(milliseconds(options.timeout ?? this.#timeout), options.signal);
+  }
+
+  async #call(command, options) {
+    return this.#callBy(this.#deadline(options), command);
+  }
+
+  async #callBy(deadline, command) {
     return this.#inTurn(deadline, () => this.#request(command, deadline));
   }
 

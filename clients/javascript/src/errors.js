@@ -35,9 +35,12 @@ export class ClientClosed extends CcnodeError {}
 export class SessionInUse extends CcnodeError {}
 
 export class DeadlineExceeded extends CcnodeError {
-  /** @param {unknown} cause why the last attempt failed */
-  constructor(cause) {
-    super(`no answer in time: ${cause instanceof Error ? cause.message : cause}`, { cause });
+  /**
+   * @param {unknown} cause why the last attempt failed
+   * @param {string} [text]
+   */
+  constructor(cause, text = `no answer in time: ${cause instanceof Error ? cause.message : cause}`) {
+    super(text, { cause });
     this.isPending = false;
   }
 }

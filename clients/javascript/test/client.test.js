@@ -18,6 +18,13 @@ const STORE_A = '010161';
 const STORE_B = '010162';
 const NOTHING = Buffer.alloc(0);
 
+// Views that differ.
+const VIEWS = [
+  `020001${row(1, 1, 'a')}`,
+  `020002${row(1, 1, 'a')}${row(2, 1, 'b')}`,
+  `020002${row(1, 2, 'c')}${row(2, 1, 'b')}`,
+];
+
 // What a client asks first where the session's last request is 4.
 const LEARNING = [
   [0, READ_FLAG],
@@ -30,6 +37,12 @@ async function scripted(context, steps) {
   return node;
 }
 
+// A reply with each view to requests from the first one on.
+const replies = (first, views) => views.map((view, place) => reply(first + place, view));
+
+// What a client asks by collects under these numbers.
+const collectsOf = (...numbers) => numbers.map((number) => [number, COLLECT]);
+
 // A node of whose session the last request is 4, and what it says from request 6 on.
 const nodeOf = (context, ...steps) => scripted(context, [...learned(4), ...steps]);
 
@@ -38,6 +51,8 @@ async function clientOf(context, node, timeout = 5_000) {
   context.after(() => client.close());
   return client;
 }
+
+const text = (row) => row && Buffer.from(row.text).toString();
 
 const isLate = (isPending) => (error) => error instanceof DeadlineExceeded && error.isPending === isPending;
 
@@ -233,6 +248,7 @@ test('arguments are looked at before anything is sent', async (context) => {
     await assert.rejects(connect(node.address, SESSION, { timeout }), InvalidArgument);
   }
   await assert.rejects(client.flag({ timeout: 0 }), InvalidArgument);
+  await assert.rejects(client.snapshot({ timeout: 0 }), InvalidArgument);
   for (const addresses of [[], '7001', '127.0.0.1:0', '127.0.0.1:65536', 7001, [7001], null, undefined]) {
     await assert.rejects(connect(addresses, SESSION), InvalidArgument);
   }
@@ -260,14 +276,8 @@ test('calls take turns', async (context) => {
 });
 
 test('a watch tells what changed', async (context) => {
-  const views = [
-    `020001${row(1, 1, 'a')}`,
-    `020002${row(1, 1, 'a')}${row(2, 1, 'b')}`,
-    `020002${row(1, 2, 'c')}${row(2, 1, 'b')}`,
-  ];
-  const node = await nodeOf(context, ...views.map((view, place) => reply(6 + place, view)), NOTHING);
+  const node = await nodeOf(context, ...replies(6, VIEWS), NOTHING);
   const watch = (await clientOf(context, node, 200)).watch(1);
-  const text = (row) => row && Buffer.from(row.text).toString();
   const seen = [];
   await assert.rejects(async () => {
     for await (const change of watch) {
@@ -279,4 +289,91 @@ test('a watch tells what changed', async (context) => {
     [2, undefined, 'b'],
     [1, 'a', 'c'],
   ]);
+});
+
+test('a snapshot is what two collects in a row show', async (context) => {
+  for (const [view, rows] of [
+    [SEEN_NOTHING, []],
+    [VIEWS[0], [{ node: 1, number: 1n, text: Uint8Array.from(Buffer.from('a')), max: 0n, flag: false, set: [] }]],
+  ]) {
+    const node = await nodeOf(context, ...replies(6, [view, view]), reply(8, STORED));
+    const client = await clientOf(context, node);
+    assert.deepEqual(await client.snapshot(), { rows, collects: 2 });
+    await client.store('a');
+    assert.deepEqual(node.asks.slice(2), [...collectsOf(6, 7), [8, STORE_A]]);
+  }
+});
+
+test('a snapshot collects until two in a row agree', async (context) => {
+  for (const first of VIEWS.slice(0, 2)) {
+    const node = await nodeOf(context, ...replies(6, [first, VIEWS[2], VIEWS[2]]));
+    const { rows, collects } = await (await clientOf(context, node)).snapshot();
+    const shown = rows.map((row) => [row.node, row.number, text(row)]);
+    assert.deepEqual(shown, [
+      [1, 2n, 'c'],
+      [2, 1n, 'b'],
+    ]);
+    assert.equal(collects, 3);
+    assert.deepEqual(node.asks.slice(2), collectsOf(6, 7, 8));
+  }
+});
+
+test('no two collects in a row agree', async (context) => {
+  for (const numbers of [
+    [6, 7],
+    [6, 7, 8],
+  ]) {
+    const answered = numbers.length;
+    const late = 6 + answered;
+    const steps = [...replies(6, VIEWS.slice(0, answered)), NOTHING, reply(late, VIEWS[2]), reply(late + 1, STORED)];
+    const node = await nodeOf(context, ...steps);
+    const client = await clientOf(context, node);
+    await assert.rejects(client.snapshot({ timeout: 300 }), (error) => {
+      assert.equal(error.message, `no two in a row of ${answered} collects agree, since others write`);
+      return isLate(true)(error) && error.cause instanceof Error;
+    });
+    await client.store('a');
+    assert.deepEqual(node.asks.slice(2), [...collectsOf(...numbers, late, late), [late + 1, STORE_A]]);
+  }
+});
+
+test('too few collects to compare', async (context) => {
+  for (const answered of [0, 1]) {
+    const node = await nodeOf(context, ...replies(6, VIEWS.slice(0, answered)), NOTHING);
+    const client = await clientOf(context, node);
+    await assert.rejects(
+      client.snapshot({ timeout: 200 }),
+      (error) => isLate(true)(error) && error.message.startsWith('no answer in time'),
+    );
+  }
+});
+
+test('all collects of a snapshot have one deadline', async (context) => {
+  const views = Array.from({ length: 20_000 }, (_, number) => `020001${row(1, number, 'a')}`);
+  const node = await nodeOf(context, ...replies(6, views));
+  const client = await clientOf(context, node);
+  await assert.rejects(
+    client.snapshot({ timeout: 100 }),
+    ({ message }) => /^no two in a row of \d+ collects agree, since others write$/.test(message),
+  );
+  const asks = node.asks.slice(2);
+  assert(asks.length < views.length);
+  assert.deepEqual(
+    asks,
+    asks.map((_, place) => [6 + place, COLLECT]),
+  );
+});
+
+test('a connection that breaks between the collects of a snapshot', async (context) => {
+  const node = await nodeOf(context, reply(6, VIEWS[0]), null, reply(7, VIEWS[0]));
+  assert.equal((await (await clientOf(context, node)).snapshot()).collects, 2);
+  assert.deepEqual(node.asks.slice(2), collectsOf(6, 7, 7));
+});
+
+test('another call comes between the collects of a snapshot', async (context) => {
+  const node = await nodeOf(context, reply(6, VIEWS[0]), reply(7, STORED), ...replies(8, [VIEWS[2], VIEWS[2]]));
+  const client = await clientOf(context, node);
+  const [{ collects }] = await Promise.all([client.snapshot(), client.store('a')]);
+  assert.equal(collects, 3);
+  assert.deepEqual(node.asks.slice(2), [[6, COLLECT], [7, STORE_A], ...collectsOf(8, 9)]);
 });

@@ -5,7 +5,7 @@ from __future__ import annotations
 import threading
 import time
 import unittest
-from typing import List
+from typing import Dict, List, Sequence
 
 import ccnode
 from ccnode import DeadlineExceeded, Fault, InvalidArgument, Malformed, Refusal, Refused, SessionInUse
@@ -19,6 +19,19 @@ LEARNING = [(0, READ_FLAG), (5, READ_FLAG)]
 
 def row(node: int, number: int, text: str) -> str:
     return f"{node:08x}{number:016x}{len(text):02x}{text.encode().hex()}{0:016x}0000"
+
+
+# Views that differ.
+VIEWS = [
+    "020001" + row(1, 1, "a"),
+    "020002" + row(1, 1, "a") + row(2, 1, "b"),
+    "020002" + row(1, 2, "c") + row(2, 1, "b"),
+]
+
+
+def replies(first: int, views: Sequence[str]) -> List[Step]:
+    """A reply with each view to requests from the first one on."""
+    return [reply(number, view) for number, view in enumerate(views, first)]
 
 
 class ClientTest(unittest.TestCase):
@@ -175,6 +188,7 @@ class ClientTest(unittest.TestCase):
         self.assertRaises(InvalidArgument, client.add, 2**32)
         for time_given in (0, -1, True, "1", float("nan")):
             self.assertRaises(InvalidArgument, client.flag, timeout=time_given)
+            self.assertRaises(InvalidArgument, client.snapshot, timeout=time_given)
             self.assertRaises(InvalidArgument, client.watch, time_given)
         self.assertRaises(InvalidArgument, ccnode.connect, node.address, SESSION, None)
         for addresses in ([], "", "7001", "127.0.0.1:0", "127.0.0.1:65536", 7001, [7001], None, f"{'a' * 64}.b:7001"):
@@ -211,12 +225,63 @@ class ClientTest(unittest.TestCase):
         self.assertEqual(node.asks[2:], [(number, STORE_A) for number in range(6, 16)])
 
     def test_a_watch_tells_what_changed(self) -> None:
-        views = ["020001" + row(1, 1, "a"), "020002" + row(1, 1, "a") + row(2, 1, "b"), "020002" + row(1, 2, "c") + row(2, 1, "b")]
-        node = self.node(*(reply(number, view) for number, view in enumerate(views, 6)), b"", reply(9, views[2]))
+        node = self.node(*replies(6, VIEWS), b"", reply(9, VIEWS[2]))
         watch = self.client(node, timeout=0.2).watch(0.001)
         seen = [(change.node, change.old and change.old.text, change.new.text) for change in (next(watch) for _ in range(3))]
         self.assertEqual(seen, [(1, None, b"a"), (2, None, b"b"), (1, b"a", b"c")])
         self.assertRaises(DeadlineExceeded, next, watch)
+
+    def test_a_snapshot_is_what_two_collects_in_a_row_show(self) -> None:
+        shown: Dict[str, List[ccnode.Row]] = {SEEN_NOTHING: [], VIEWS[0]: [ccnode.Row(1, 1, b"a", 0, False, ())]}
+        for view, rows in shown.items():
+            node = self.node(*replies(6, [view, view]), reply(8, STORED))
+            client = self.client(node)
+            self.assertEqual(client.snapshot(), ccnode.Snapshot(rows, 2))
+            client.store("a")
+            self.assertEqual(node.asks[2:], [(6, COLLECT), (7, COLLECT), (8, STORE_A)])
+
+    def test_a_snapshot_collects_until_two_in_a_row_agree(self) -> None:
+        for first in VIEWS[:2]:
+            node = self.node(*replies(6, [first, VIEWS[2], VIEWS[2]]))
+            taken = self.client(node).snapshot()
+            self.assertEqual([(row.node, row.number, row.text) for row in taken.rows], [(1, 2, b"c"), (2, 1, b"b")])
+            self.assertEqual(taken.collects, 3)
+            self.assertEqual(node.asks[2:], [(6, COLLECT), (7, COLLECT), (8, COLLECT)])
+
+    def test_no_two_collects_in_a_row_agree(self) -> None:
+        for answered in (2, 3):
+            late = 6 + answered
+            node = self.node(*replies(6, VIEWS[:answered]), b"", reply(late, VIEWS[2]), reply(late + 1, STORED))
+            client = self.client(node)
+            text = f"^no two in a row of {answered} collects agree, since others write$"
+            with self.assertRaisesRegex(DeadlineExceeded, text) as raised:
+                client.snapshot(timeout=0.3)
+            self.assertTrue(raised.exception.is_pending)
+            self.assertIsInstance(raised.exception.__cause__, OSError)
+            client.store("a")
+            collects = [(number, COLLECT) for number in (*range(6, late), late, late)]
+            self.assertEqual(node.asks[2:], [*collects, (late + 1, STORE_A)])
+
+    def test_too_few_collects_to_compare(self) -> None:
+        for answered in (0, 1):
+            node = self.node(*replies(6, VIEWS[:answered]), b"")
+            with self.assertRaisesRegex(DeadlineExceeded, "^no answer in time") as raised:
+                self.client(node).snapshot(timeout=0.2)
+            self.assertTrue(raised.exception.is_pending)
+
+    def test_all_collects_of_a_snapshot_have_one_deadline(self) -> None:
+        views = ["020001" + row(1, number, "a") for number in range(20_000)]
+        node = self.node(*replies(6, views))
+        with self.assertRaisesRegex(DeadlineExceeded, r"^no two in a row of \d+ collects agree, since others write$"):
+            self.client(node).snapshot(timeout=0.1)
+        asks = node.asks[2:]
+        self.assertLess(len(asks), len(views))
+        self.assertEqual(asks, [(number, COLLECT) for number in range(6, 6 + len(asks))])
+
+    def test_a_connection_that_breaks_between_the_collects_of_a_snapshot(self) -> None:
+        node = self.node(reply(6, VIEWS[0]), None, reply(7, VIEWS[0]))
+        self.assertEqual(self.client(node).snapshot().collects, 2)
+        self.assertEqual(node.asks[2:], [(6, COLLECT), (7, COLLECT), (7, COLLECT)])
 
 
 if __name__ == "__main__":

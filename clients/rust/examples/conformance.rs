@@ -3,7 +3,7 @@
 //!
 //! conformance OPERATIONS PLAN NODE,ADDRESS,SESSION...
 
-use ccnode::{connect_timeout, Client, Error, Row};
+use ccnode::{connect_timeout, Client, Error, Row, Snapshot};
 use std::error;
 use std::thread;
 use std::time::{Duration, SystemTime, UNIX_EPOCH};
@@ -12,6 +12,8 @@ const NAME: &str = "rust";
 const PATIENCE: Duration = Duration::from_secs(120);
 // Each fiftieth operation gets no time to speak of.
 const HASTE: Duration = Duration::from_millis(1);
+// A snapshot ends by its deadline where others write all the time.
+const SNAPSHOT_PATIENCE: Duration = Duration::from_secs(2);
 
 #[derive(Clone)]
 struct Driver {
@@ -25,6 +27,7 @@ struct Driver {
 enum Operation {
     Store(String),
     Collect,
+    Snapshot,
     Max(u64),
     ReadMax,
     Flag,
@@ -38,6 +41,7 @@ impl Operation {
         match self {
             Operation::Store(_) => "store",
             Operation::Collect => "collect",
+            Operation::Snapshot => "snapshot",
             Operation::Max(_) => "max",
             Operation::ReadMax => "read_max",
             Operation::Flag => "flag",
@@ -63,6 +67,7 @@ impl Operation {
         match self {
             Operation::Store(text) => client.store(text).map(stored),
             Operation::Collect => client.collect().map(|rows| listed(rows.iter().map(row))),
+            Operation::Snapshot => client.snapshot().map(|taken| snapshot(&taken)),
             Operation::Max(number) => client.max(*number).map(stored),
             Operation::ReadMax => client.read_max().map(|number| number.to_string()),
             Operation::Flag => client.flag().map(stored),
@@ -85,6 +90,11 @@ fn row(row: &Row) -> String {
         "[{},{},\"{text}\",{},{},{set}]",
         row.node, row.number, row.max, row.flag
     )
+}
+
+fn snapshot(taken: &Snapshot) -> String {
+    let rows = listed(taken.rows.iter().map(row));
+    format!(r#"{{"rows":{rows},"collects":{}}}"#, taken.collects)
 }
 
 fn told(answer: Result<String, Error>) -> String {
@@ -110,6 +120,7 @@ impl Driver {
         match letters[((place + self.session) % letters.len() as u64) as usize] {
             b's' => Operation::Store(format!("{NAME}-{}-{place}", self.session)),
             b'c' => Operation::Collect,
+            b'n' => Operation::Snapshot,
             b'm' => Operation::Max(1000 * place + self.session),
             b'M' => Operation::ReadMax,
             b'f' if 2 * place >= self.operations => Operation::Flag,
@@ -121,7 +132,11 @@ impl Driver {
 
     fn step(&self, client: &mut Client, place: u64) {
         let operation = self.operation(place);
-        client.set_timeout(if place % 50 == 25 { HASTE } else { PATIENCE });
+        client.set_timeout(match operation {
+            _ if place % 50 == 25 => HASTE,
+            Operation::Snapshot => SNAPSHOT_PATIENCE,
+            _ => PATIENCE,
+        });
         let start = microseconds();
         let answer = told(operation.ask(client));
         let end = microseconds() + 1;

@@ -122,5 +122,6 @@ fn late(name: &str) -> Error {
     Error::DeadlineExceeded {
         is_pending: false,
         cause: Cause::Io(io::Error::new(io::ErrorKind::TimedOut, why)),
+        collects: 0,
     }
 }

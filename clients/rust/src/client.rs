@@ -3,6 +3,7 @@
 use crate::addresses::{look_up_all, Addresses};
 use crate::connection::{Connection, Deadline, Failure};
 use crate::error::{Cause, Error, Fault, Refusal};
+use crate::snapshot::{take_snapshot, Snapshot};
 use crate::watch::Watch;
 use crate::wire::{encode_ask, Answer, Command, Row, Told, Verdict, MAX_REQUEST};
 use crate::Result;
@@ -88,10 +89,15 @@ impl Client {
 
     /// The last row of each node that ever wrote, by ascending node.
     pub fn collect(&mut self) -> Result<Vec<Row>> {
-        match self.call(Command::Collect)? {
-            Answer::Seen(rows) => Ok(rows),
-            _ => Err(Error::SessionInUse),
-        }
+        self.collect_by(Deadline::new(self.timeout))
+    }
+
+    /// What all nodes had at one moment: it collects until two collects in a row agree.
+    ///
+    /// Where others write all the time no two may agree until the deadline. A longer timeout gives it more tries.
+    pub fn snapshot(&mut self) -> Result<Snapshot> {
+        let deadline = Deadline::new(self.timeout);
+        take_snapshot(|| self.collect_by(deadline))
     }
 
     /// Raises this node's maximum to `number`; a smaller one leaves it as it is.
@@ -141,8 +147,18 @@ impl Client {
     /// Ends the client, as dropping it does. What is pending may still be done.
     pub fn close(self) {}
 
+    fn collect_by(&mut self, deadline: Deadline) -> Result<Vec<Row>> {
+        match self.call_by(deadline, Command::Collect)? {
+            Answer::Seen(rows) => Ok(rows),
+            _ => Err(Error::SessionInUse),
+        }
+    }
+
     fn call(&mut self, command: Command) -> Result<Answer> {
-        let deadline = Deadline::new(self.timeout);
+        self.call_by(Deadline::new(self.timeout), command)
+    }
+
+    fn call_by(&mut self, deadline: Deadline, command: Command) -> Result<Answer> {
         let called = self
             .prepare(deadline)
             .and_then(|number| self.request(number, &command, deadline));
@@ -167,6 +183,7 @@ impl Client {
             Err(Error::DeadlineExceeded { cause, .. }) => Err(Error::DeadlineExceeded {
                 is_pending: self.pending.is_some(),
                 cause,
+                collects: 0,
             }),
             told => told,
         }
@@ -259,6 +276,7 @@ impl Client {
                 return Err(Error::DeadlineExceeded {
                     is_pending: false,
                     cause,
+                    collects: 0,
                 });
             }
         }

@@ -106,13 +106,16 @@ pub enum Cause {
 pub enum Error {
     /// An argument is outside its limits. Nothing was sent.
     InvalidArgument(String),
-    /// No answer came in time.
+    /// No answer came in time, or no two collects in a row of a snapshot agreed.
     DeadlineExceeded {
         /// Where this is true, what was asked may have been done, and the client's next call first asks it again until it
         /// is. Else it was never sent.
         is_pending: bool,
         /// Why the last attempt failed.
         cause: Cause,
+        /// How many collects of a snapshot were answered of which no two in a row agree. It is 0 where fewer than two were,
+        /// and for any other call.
+        collects: u64,
     },
     /// The node refused the request for good: it wasn't done, and won't be.
     Refused {
@@ -131,6 +134,10 @@ impl fmt::Display for Error {
     fn fmt(&self, f: &mut fmt::Formatter<'_>) -> fmt::Result {
         match self {
             Error::InvalidArgument(why) => write!(f, "invalid argument: {why}"),
+            Error::DeadlineExceeded { collects, .. } if *collects > 0 => write!(
+                f,
+                "no two in a row of {collects} collects agree, since others write"
+            ),
             Error::DeadlineExceeded {
                 cause: Cause::Io(why),
                 ..

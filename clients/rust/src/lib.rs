@@ -17,6 +17,7 @@ mod addresses;
 mod client;
 mod connection;
 mod error;
+mod snapshot;
 mod watch;
 mod wire;
 
@@ -26,6 +27,7 @@ mod tests;
 pub use addresses::{Address, Addresses};
 pub use client::{connect, connect_timeout, Client, DEFAULT_TIMEOUT};
 pub use error::{Cause, Error, Fault, Refusal};
+pub use snapshot::Snapshot;
 pub use watch::{Change, Watch};
 pub use wire::Row;
 

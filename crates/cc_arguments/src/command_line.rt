@@ -79,6 +79,7 @@ Examples: ccnode ask 127.0.0.1:7001 7 store a
 Commands, and what they print:
   store WORD      stores a text of 1 to 64 visible characters: Stored
   collect         the last value of each node: Seen [NODE:NUMBER=TEXT/MAX/FLAG/SET,..]
+  snapshot        the values that all nodes had at one moment: Seen [..] and collects N
   max N, readmax  writes a number, and reads the greatest of all nodes: Stored, Max N
   flag, readflag  sets a flag, and reads whether any node did: Stored, Flag 1
   add N, readset  adds a number to a set, and reads those of all nodes: Stored, Set [N,..]
@@ -94,6 +95,10 @@ however often that line is run, and a number that isn't the session's last or th
 is refused, 11 Stale or 12 Skip. With --wait a node that isn't in the cluster yet is
 asked again until the time is over. With `store --text TEXT` any text of 1 to 64 bytes
 is stored.
+
+A snapshot is what two collects in a row show alike. With --snapshot a reading is read
+off one, as readmax. A second line tells how many collects that took; where no two
+agree in time, since others write, it prints `no snapshot`.
 
 With --json it prints {\"answer\":\"Max\",\"max\":\"120\"} and the like, {\"refused\":\"Busy\",
 \"number\":13,\"carries\":\"0\"}, {\"session_in_use\":true} or {\"no_answer\":true}. Numbers
@@ -292,6 +297,10 @@ const ASK: Subcommand = Subcommand {
         ),
         Word::Option("timeout", "SECONDS", "How long it waits [default: 10]"),
         Word::Flag("wait", "Asks again while the node hasn't joined"),
+        Word::Flag(
+            "snapshot",
+            "Has a reading read what all nodes had at one moment",
+        ),
         Word::Option(
             "status",
             "ADDR",

@@ -138,6 +138,7 @@ fn ask_words<'a>(words: &ArgMatches<'a>) -> AskWords<'a> {
         timeout: words.get_str("timeout"),
         form: answer_form(words),
         waits: words.get_flag("wait"),
+        snapshot: words.get_flag("snapshot"),
         status: words.get_str("status"),
     }
 }

@@ -1,7 +1,8 @@
 //! Admission to the queue, for which workers wait until it has room, and the node has room for posts: so none of them finds
 //! the queue full.
 
-ghost use Rattle.std.specs.Prelude.{◌≤◌, IfSome};
+ghost use Rattle.std.specs.Prelude.{◌≤◌, IfSome, IfErr, true, None};
+ghost use Rattle.cc_channels.specs.Admissions.{IsWhy};
 
 use crate::connections::Connections;
 use crate::durable::{Durable, Flushed};
@@ -169,7 +170,9 @@ impl<F: Flushed> Admission<F> {
         me: NodeId,
         event: &Event,
         over: &Flag,
-    ) -> Result<(), NotAdmitted> {
+    ) -> Result<(), NotAdmitted>
+        ensures why { IfErr result (λ why. IsWhy true None why) }
+    {
         let mut permits = self.permits.lock(rt);
         let since = permits.ticks;
         for _ in rt.forever() {

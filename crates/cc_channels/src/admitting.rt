@@ -1,6 +1,7 @@
 //! Where a worker's events wait until the node has room for them.
 
-ghost use Rattle.std.specs.Prelude.{◌≡◌, true, OnOk, OnErr};
+ghost use Rattle.std.specs.Prelude.{◌≡◌, true, OnOk, OnErr, IfErr};
+ghost use Rattle.cc_channels.specs.Admissions.{IsWhy};
 
 use crate::admission::{Admission, NotAdmitted};
 use crate::connections::{Connection, Connections};
@@ -21,11 +22,10 @@ pub trait Admitting {
     ghost may_turn_away: { Type 0 };
 
     /// Whether such an event may come over the connection at all.
-    ghost may_come: { Self → Event → Bool };
+    ghost comes: { Self → Event → Bool };
 
-    /// Whether such an event may come over the connection at all.
-    fn may_bring(&self, event: &Event) -> bool
-        ensures { result ≡ may_come self.now event.now };
+    fn may_come(&self, event: &Event) -> bool
+        ensures { result ≡ comes self.now event.now };
 
     /// Waits until the event may be handed over, and takes a permit for it, or says why it got none. One that may not come over the
     /// connection gets none, and one that the server objects to is turned away where one can be.
@@ -36,7 +36,8 @@ pub trait Admitting {
         objection: Option<Objection>,
     ) -> Result<(), NotAdmitted>
         ensures turned_away { OnErr result may_turn_away }
-        ensures may_come { OnOk result (may_come self.now event.now ≡ true) };
+        ensures may_come { OnOk result (comes self.now event.now ≡ true) }
+        ensures why { IfErr result (λ why. IsWhy (comes self.now event.now) objection why) };
 }
 
 /// The permits of a node for what comes over one connection.
@@ -88,9 +89,9 @@ impl<F: Flushed> Admitting for ConnectionAdmission<'_, F> {
 
     ghost may_turn_away = { ⊤ };
 
-    ghost may_come = { λ a e. allows a.admitted.access e };
+    ghost comes = { λ a e. allows a.admitted.access e };
 
-    fn may_bring(&self, event: &Event) -> bool {
+    fn may_come(&self, event: &Event) -> bool {
         self.admitted.access.allows(event)
     }
 
@@ -100,7 +101,7 @@ impl<F: Flushed> Admitting for ConnectionAdmission<'_, F> {
         event: &Event,
         objection: Option<Objection>,
     ) -> Result<(), NotAdmitted> {
-        if !self.may_bring(event) {
+        if !self.may_come(event) {
             return Err(NotAdmitted::Barred);
         }
         if let Some(objection) = objection {

@@ -56,6 +56,11 @@ impl OwnChannel {
     pub fn unmute(&self) {
         self.is_muted.put(false);
     }
+
+    /// Whether it takes nothing now.
+    pub fn is_muted(&self) -> bool {
+        self.is_muted.is_set()
+    }
 }
 
 /// The channel of a node to itself, and what its worker takes.

@@ -15,7 +15,7 @@ use std::sync::atomic::{AtomicU64, Ordering};
 use std::sync::{Arc, Mutex, Wait};
 
 // How many parcels wait for a peer's writer at most.
-const CHANNEL_ROOM: usize = 256;
+pub(crate) const CHANNEL_ROOM: usize = 256;
 
 // After so many seconds in which a peer was late or silent, it is connected to anew.
 const MOST_SILENCE: u64 = 5;
@@ -47,6 +47,8 @@ pub struct Way {
     address: Mutex<SocketAddr>,
     // The peer is to be connected to anew.
     is_stale: Flag,
+    // The peer was connected to, and was sent nothing again since.
+    is_new: Flag,
     // Since when it is connected to, in milliseconds since 1970. 0 where it isn't.
     connected_since: AtomicU64,
 }
@@ -57,6 +59,7 @@ impl Way {
         Way {
             address: Mutex::new(address),
             is_stale: Flag::new(),
+            is_new: Flag::new(),
             connected_since: AtomicU64::new(0),
         }
     }
@@ -87,6 +90,11 @@ impl Way {
     /// The peer is connected to since then, in milliseconds since 1970; at 0 it isn't.
     pub fn put_connected(&self, since: u64) {
         self.connected_since.store(since, Ordering::SeqCst);
+    }
+
+    /// The peer was connected to anew: it may lack what went into the connection before.
+    pub fn renew(&self) {
+        self.is_new.set();
     }
 }
 
@@ -134,6 +142,11 @@ impl PeerChannel {
     /// Mutes the channel where something waits on it.
     pub fn mute(&self) {
         self.is_muted.put(!self.to.is_empty());
+    }
+
+    /// Mutes the channel, unless its peer was connected to since the last call.
+    pub fn mute_unless_new(&self) {
+        self.is_muted.put(!self.way.is_new.take());
     }
 
     pub fn unmute(&self) {

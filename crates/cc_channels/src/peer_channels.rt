@@ -85,6 +85,15 @@ impl PeerChannels {
         }
     }
 
+    /// Mutes each channel, but those to peers that were connected to since the last call.
+    pub fn mute_all_but_new(&self) {
+        for slot in &self.slots {
+            if let Some(channel) = slot.get() {
+                channel.mute_unless_new();
+            }
+        }
+    }
+
     /// Unmutes all channels.
     pub fn unmute(&self) {
         for slot in &self.slots {

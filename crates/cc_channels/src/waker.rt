@@ -1,5 +1,6 @@
 //! How workers wake the flusher.
 
+use crate::flags::Flag;
 use crossbeam_utils::sync::Unparker;
 use std::sync::atomic::{AtomicU64, Ordering};
 
@@ -12,6 +13,8 @@ pub struct Waker {
     unparker: Unparker,
     // How many events were accepted since the flusher looked last, and didn't wake it.
     deferred: AtomicU64,
+    // A peer was connected to since the flusher looked last.
+    has_connected: Flag,
 }
 
 impl Waker {
@@ -19,6 +22,7 @@ impl Waker {
         Waker {
             unparker,
             deferred: AtomicU64::new(0),
+            has_connected: Flag::new(),
         }
     }
 
@@ -33,6 +37,17 @@ impl Waker {
         if before.saturating_add(1) >= MOST_DEFERRED {
             self.wake();
         }
+    }
+
+    /// A peer was connected to: it wakes the flusher, which sends it again what it hasn't acknowledged.
+    pub fn connect(&self) {
+        self.has_connected.set();
+        self.wake();
+    }
+
+    /// Whether a peer was connected to since the last call.
+    pub fn take_connected(&self) -> bool {
+        self.has_connected.take()
     }
 
     /// The flusher looks.

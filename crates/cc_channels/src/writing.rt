@@ -1,13 +1,14 @@
 //! Writers: each writes to a stream what comes out of a channel.
 
 use crate::flags::Flag;
-use crate::peer_channel::FarEnd;
+use crate::peer_channel::{CHANNEL_ROOM, FarEnd};
+use crate::waker::Waker;
 use cc_protocol::{Bundle, Parcel};
 use cc_views::{NoMemory, NodeId};
 use crossbeam_channel::Receiver;
 use log::{Log, info};
 use std::alloc::{AllocError, Global};
-use std::io::Write;
+use std::io::{ErrorKind, Write};
 use std::net::{Net, SocketAddr, TcpStream};
 use std::sync::Wait;
 use std::sync::atomic::{AtomicU64, Ordering};
@@ -64,13 +65,15 @@ fn gather<R: Wait>(
     Ok(())
 }
 
-/// Writes to one peer, which it connects to again after a failure, until the flag is set. It notes when the node is connected, and
-/// when it isn't any longer: at most one of each a second, and the last note says what is so a second later.
+/// Writes to one peer, which it connects to again after a failure, until the flag is set. Each time it wakes the flusher, which sends
+/// again what the peer hasn't acknowledged. It notes when the node is connected, and when it isn't any longer: at most one of each a
+/// second, and the last note says what is so a second later.
 pub fn write_peer<R: Wait + Clock + Log + Net<Stream = TcpStream>>(
     rt: &R,
     alloc: Global,
     me: NodeId,
     end: FarEnd,
+    waker: &Waker,
     over: &Flag,
 ) {
     let mut noted = Noted::new();
@@ -83,6 +86,7 @@ pub fn write_peer<R: Wait + Clock + Log + Net<Stream = TcpStream>>(
         if let Ok(stream) = TcpStream::connect_timeout(rt, &address, Duration::from_secs(1)) {
             end.way.put_connected(millis(rt));
             noted.connect(rt, me, end.peer, address);
+            renew(rt, &end, waker);
             write_while(rt, alloc, me, &end, &stream, over);
             end.way.put_connected(0);
         }
@@ -90,6 +94,18 @@ pub fn write_peer<R: Wait + Clock + Log + Net<Stream = TcpStream>>(
         thread::sleep(rt, Duration::from_millis(PAUSE_MS));
     }
     unreachable!()
+}
+
+// The peer may lack what went into the connection before, and refuses what waits behind that. So it is sent all again, in its order.
+fn renew<R: Wait>(rt: &R, end: &FarEnd, waker: &Waker) {
+    for _ in 0..CHANNEL_ROOM {
+        match end.from.try_recv(rt) {
+            Ok(parcel) => drop(parcel),
+            Err(_) => break,
+        }
+    }
+    end.way.renew();
+    waker.connect();
 }
 
 // What was noted of the connection to a peer.
@@ -145,7 +161,7 @@ pub fn monotonic_millis<R: Clock>(rt: &R) -> u64 {
     }
 }
 
-// Writes until a write fails, or a flag is set.
+// Writes until a write fails, the peer ends the connection, or a flag is set.
 fn write_while<R: Wait + Clock>(
     rt: &R,
     alloc: Global,
@@ -162,6 +178,9 @@ fn write_while<R: Wait + Clock>(
             return;
         }
         let Ok(first) = end.from.recv_timeout(rt, Duration::from_millis(PAUSE_MS)) else {
+            if is_ended(stream) {
+                return;
+            }
             continue;
         };
         let Ok(bytes) = bundled(rt, alloc, me, &end.from, first) else {
@@ -172,6 +191,19 @@ fn write_while<R: Wait + Clock>(
         }
     }
     unreachable!()
+}
+
+// Whether the peer has ended the connection, of which a write would tell only at the second try.
+fn is_ended(stream: &TcpStream) -> bool {
+    if stream.set_nonblocking(true).is_err() {
+        return false;
+    }
+    let is_ended = match stream.peek(&mut [0]) {
+        Ok(len) => len == 0,
+        Err(fault) => fault.kind() != ErrorKind::WouldBlock,
+    };
+    let _ = stream.set_nonblocking(false);
+    is_ended
 }
 
 // The bytes of a parcel, and of those that wait behind it.

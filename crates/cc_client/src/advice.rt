@@ -14,6 +14,8 @@ pub enum Advice {
     Itself(SocketAddr),
     /// The node to be retired was heard within three seconds.
     Alive,
+    /// No two in a row of so many collects agreed.
+    NoTwoAgree(u64),
 }
 
 impl fmt::Display for Advice {
@@ -32,6 +34,10 @@ impl fmt::Display for Advice {
             Advice::Itself(address) => write!(
                 f,
                 "that is the node at {address} itself: `ccnode leave {address}` has it leave"
+            ),
+            Advice::NoTwoAgree(collects) => write!(
+                f,
+                "no two in a row of {collects} collects agree, since others write: --timeout gives it longer"
             ),
             Advice::Alive => write!(
                 f,

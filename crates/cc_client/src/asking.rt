@@ -5,6 +5,7 @@ use crate::deadline::Deadline;
 use crate::printing::{print_answer, print_refusal, print_silence, print_use};
 use crate::sending::{connect, pause, receive, send};
 use crate::silence::{Silence, Told};
+use crate::snapshot::take_snapshot;
 use cc_frames::Frame;
 use cc_messages::{Answer, Refusal};
 use cc_orders::AskOrder;
@@ -15,7 +16,7 @@ use std::io::Write;
 use std::net::{Net, SocketAddr, TcpStream};
 use std::time::Clock;
 
-/// Has a command done: it asks, again where the node is busy or the connection breaks, or hasn't joined and the order waits
+/// Has a command done, or takes a snapshot: it asks, again where the node is busy or the connection breaks, or hasn't joined and the order waits
 /// for that, and always under one number, so that nothing is done twice. It prints the answer, `refused` and why, `session in
 /// use` where another client took the number, or `no answer` where none came in time, in the form of the order.
 pub fn ask_node<R: Net<Stream = TcpStream> + Clock, W: Write>(
@@ -24,13 +25,12 @@ pub fn ask_node<R: Net<Stream = TcpStream> + Clock, W: Write>(
     order: &AskOrder,
     output: &mut W,
 ) -> io::Result<Told> {
-    let mut asking = Asking {
-        client: client_of(order),
-        waits: order.waits,
-        refusal: None,
-        silence: Silence::Mute(order.address),
-    };
-    let ended = asking.ask(rt, alloc, order);
+    if order.snapshot {
+        return take_snapshot(rt, alloc, order, output);
+    }
+    let mut asking = Asking::of(order, client_of(order));
+    let deadline = Deadline::new(rt, order.timeout);
+    let ended = asking.ask(rt, alloc, order, &deadline);
     asking.print(alloc, order, ended, output)
 }
 
@@ -45,7 +45,7 @@ fn client_of(order: &AskOrder) -> Client {
 // A client, whether it waits for its node to join, and why it has no answer yet: a refusal, where one is why, or what became of
 // its last try to connect.
 #[derive(Drop)]
-struct Asking {
+pub(crate) struct Asking {
     client: Client,
     waits: bool,
     refusal: Option<Refusal>,
@@ -62,28 +62,43 @@ enum Next {
 
 // How a client's asking ended.
 #[derive(Drop)]
-enum Ended {
+pub(crate) enum Ended {
     Answered(Answer),
     InUse,
     Refused(Refusal),
 }
 
 impl Asking {
+    // A client of an order that has asked nothing yet.
+    pub(crate) fn of(order: &AskOrder, client: Client) -> Self {
+        Asking {
+            client,
+            waits: order.waits,
+            refusal: None,
+            silence: Silence::Mute(order.address),
+        }
+    }
+
+    // Its command was answered, and is done once more.
+    pub(crate) fn go_on(&mut self) {
+        self.client.go_on();
+    }
+
     // None where nothing came in time.
-    fn ask<R: Net<Stream = TcpStream> + Clock>(
+    pub(crate) fn ask<R: Net<Stream = TcpStream> + Clock>(
         &mut self,
         rt: &R,
         alloc: Global,
         order: &AskOrder,
+        deadline: &Deadline,
     ) -> Option<Ended> {
-        let deadline = Deadline::new(rt, order.timeout);
         for _ in 0..u64::MAX {
-            if let Some(ended) = self.try_once(rt, alloc, order, &deadline) {
+            if let Some(ended) = self.try_once(rt, alloc, order, deadline) {
                 return Some(ended);
             }
             drop(self.client.hear(Heard::Broken));
             deadline.left(rt)?;
-            pause(rt, &deadline);
+            pause(rt, deadline);
         }
         None
     }
@@ -214,7 +229,7 @@ impl Asking {
     }
 
     // Prints how it ended.
-    fn print<W: Write>(
+    pub(crate) fn print<W: Write>(
         &self,
         alloc: Global,
         order: &AskOrder,
@@ -223,7 +238,7 @@ impl Asking {
     ) -> io::Result<Told> {
         match ended {
             Some(Ended::Answered(answer)) => {
-                let printed = print_answer(alloc, order.form, &answer, output);
+                let printed = print_answer(alloc, order.form, &answer, None, output);
                 drop(answer);
                 printed?;
                 Ok(Told::done())

@@ -31,17 +31,20 @@ struct JsonAnswer<'a> {
     flag: Option<bool>,
     #[serde(skip_serializing_if = "Option::is_none")]
     set: Option<&'a [u32]>,
+    #[serde(skip_serializing_if = "Option::is_none")]
+    collects: Option<u64>,
 }
 
 impl JsonAnswer<'_> {
     // One that carries nothing.
-    fn named(answer: &'static str) -> Self {
+    fn named(answer: &'static str, collects: Option<u64>) -> Self {
         JsonAnswer {
             answer,
             view: None,
             max: None,
             flag: None,
             set: None,
+            collects,
         }
     }
 }
@@ -68,32 +71,32 @@ struct JsonRefusal<'a> {
     carries: Digits,
 }
 
-/// An answer as JSON. The only error is a refused growth.
-pub fn json_of_answer(alloc: Global, answer: &Answer) -> io::Result<String> {
+/// An answer as JSON, with how many collects a snapshot took. The only error is a refused growth.
+pub fn json_of_answer(alloc: Global, answer: &Answer, collects: Option<u64>) -> io::Result<String> {
     let json = match answer {
-        Answer::Stored => JsonAnswer::named("Stored"),
-        Answer::Seen(view) => return json_of_view(alloc, view),
+        Answer::Stored => JsonAnswer::named("Stored", collects),
+        Answer::Seen(view) => return json_of_view(alloc, view, collects),
         Answer::Max(max) => JsonAnswer {
             max: Some(Digits(*max)),
-            ..JsonAnswer::named("Max")
+            ..JsonAnswer::named("Max", collects)
         },
         Answer::Flag(flag) => JsonAnswer {
             flag: Some(*flag),
-            ..JsonAnswer::named("Flag")
+            ..JsonAnswer::named("Flag", collects)
         },
         Answer::Set(numbers) => JsonAnswer {
             set: Some(numbers.as_slice()),
-            ..JsonAnswer::named("Set")
+            ..JsonAnswer::named("Set", collects)
         },
     };
     written(alloc, &json)
 }
 
-fn json_of_view(alloc: Global, view: &View) -> io::Result<String> {
+fn json_of_view(alloc: Global, view: &View, collects: Option<u64>) -> io::Result<String> {
     let rows = json_rows(alloc, view.rows())?;
     let answer = JsonAnswer {
         view: Some(rows.as_slice()),
-        ..JsonAnswer::named("Seen")
+        ..JsonAnswer::named("Seen", collects)
     };
     let json = written(alloc, &answer);
     drop(rows);

@@ -10,6 +10,7 @@ mod operating;
 mod printing;
 mod sending;
 mod silence;
+mod snapshot;
 
 pub use advice::Advice;
 pub use asking::ask_node;

@@ -8,17 +8,23 @@ use std::alloc::Global;
 use std::io;
 use std::io::Write;
 
-/// Prints an answer.
+/// Prints an answer, and how many collects a snapshot took.
 pub fn print_answer<W: Write>(
     alloc: Global,
     form: AnswerForm,
     answer: &Answer,
+    collects: Option<u64>,
     output: &mut W,
 ) -> io::Result<()> {
     match form {
-        AnswerForm::Plain => writeln!(output, "{}", PrintedAnswer(answer))?,
+        AnswerForm::Plain => {
+            writeln!(output, "{}", PrintedAnswer(answer))?;
+            if let Some(collects) = collects {
+                writeln!(output, "collects {collects}")?;
+            }
+        }
         AnswerForm::Json => {
-            let json = json_of_answer(alloc, answer)?;
+            let json = json_of_answer(alloc, answer, collects)?;
             let printed = writeln!(output, "{}", HarmlessJson(json.as_str()));
             drop(json);
             printed?;
@@ -60,6 +66,15 @@ pub fn print_silence<W: Write>(form: AnswerForm, output: &mut W) -> io::Result<(
     let line = match form {
         AnswerForm::Plain => "no answer",
         AnswerForm::Json => "{\"no_answer\":true}",
+    };
+    print_line(line, output)
+}
+
+/// Prints that no two collects in a row agreed in time.
+pub fn print_no_snapshot<W: Write>(form: AnswerForm, output: &mut W) -> io::Result<()> {
+    let line = match form {
+        AnswerForm::Plain => "no snapshot",
+        AnswerForm::Json => "{\"no_snapshot\":true}",
     };
     print_line(line, output)
 }

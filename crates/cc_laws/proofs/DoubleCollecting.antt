@@ -199,7 +199,7 @@ module _ (c d : Cluster) (moves : List (ℕ × Move)) (begins : IsFreshCluster c
     | inr no_less ↦ inr (later c moves n.made m.made n.now m.now (omega (arith, no_less)) n.run m.run)
   ]
 
-  to_end : (m : Moment c moves) → Leads m.now d
+  pub to_end : (m : Moment c moves) → Leads m.now d
   to_end m = behind c (take m.made moves) (drop m.made moves) moves m.now d (take-append-drop m.made moves) m.run run
 
   pub answered_later : (m n : Moment c moves) (p s r : ℕ) (v : ViewMap) → IsAhead m.now p s r → IsAnswered n.now p s r (answer.Seen v)

@@ -39,6 +39,7 @@ mod Once
 mod Quorums
 mod Lasting
 mod ReadingBack
+mod CollectReadings
 mod Inserting
 mod TwoNodes
 mod Turns

@@ -106,7 +106,7 @@ module _ (run : Course) (q s r p x y : ℕ) (ahead : IsAhead run.mid p x y) (sha
 
   module _ (P : Value → Type 0) (stable : IsStable P) where
     -- a value that was written and answered is in what is read later, or one that came after it
-    done_seen : (command : Command) → is_writing command ≡ true → ((v : Value) → P (written command v)) → IsDone mid q s r command
+    pub done_seen : (command : Command) → is_writing command ≡ true → ((v : Value) → P (written command v)) → IsDone mid q s r command
         → (a : Answer) (read : Reading d p x y a) → (e : Pair) × (table.get read.seen q ≡ Some e) × P e.1
     done_seen command writes makes done a read =
         let m = done.0 in

@@ -1,12 +1,16 @@
 //! The laws of double collects: readings that show the whole cluster at one moment.
 
-ghost use Rattle.std.specs.Prelude.{◌⊎◌, ℕ, List};
+ghost use Rattle.std.specs.Prelude.{◌≡◌, ◌⊎◌, ◌≤◌, ℕ, true, List};
+ghost use Rattle.cc_views.specs.NatSets as set;
 ghost use Rattle.cc_laws.specs.Clusters.{Cluster, Move};
 ghost use Rattle.cc_laws.specs.Runs.{Run, IsFreshCluster};
 ghost use Rattle.cc_laws.specs.Orders.{IsFollowedBy};
-ghost use Rattle.cc_laws.specs.Regular.{IsAnswered, IsStored, IsAhead, HasAtLeast, SeesWrite, RoundsMeet};
+ghost use Rattle.cc_laws.specs.Regular.{IsAnswered, IsStored, IsAhead, HasAtLeast, SeesWrite, RoundsMeet, ShareNode};
+ghost use Rattle.cc_laws.specs.ReadBack.{IsDone};
 ghost use Rattle.cc_laws.specs.DoubleCollects.{Moment, DoubleCollect, LacksWrite, AreInOrder, IsBelow, Operation, IsLinearization};
 ghost use Rattle.cc_messages.specs.declared.answer.Answer.TheVariants as answer;
+ghost use Rattle.cc_messages.specs.declared.command.Command.TheVariants as command;
+ghost use Rattle.cc_objects.specs.Objects.{max_of, flag_of, set_of};
 
 /// Two collects in a row that show one view are a snapshot: the view stood at one moment, that at which the first was answered and
 /// the second wasn't asked, as long as any two rounds that ended counted an answer of one same node. Of two such views one is within
@@ -28,4 +32,40 @@ pub fn equal_collects_are_a_snapshot()
     ensures linearizable { (c d : Cluster) (moves : List (ℕ × Move)) → IsFreshCluster c → Run c moves d → RoundsMeet d
         → (collects : List (DoubleCollect c moves d)) → AreInOrder c moves d collects
         → (key : Operation → List ℕ) × IsLinearization c moves d collects (λ o p. IsBelow (key o) (key p)) }
+{}
+
+/// So of the simple objects, as double collects read them. Where one view is within another, so is what is read off it: the greatest
+/// maximum is at most the other one, a flag that is set is set there, and each member is one there (`max_within`, `flag_within`,
+/// `members_within`). So of two double collects one reads no more than the other. And what was written and answered before the second
+/// collect was asked is read, whichever node wrote it (`max`, `flag`, `member`).
+pub fn readings_of_double_collects()
+    ensures max_within { (c d : Cluster) (moves : List (ℕ × Move)) → IsFreshCluster c → Run c moves d → (a b : DoubleCollect c moves d)
+        → IsFollowedBy a.view b.view → max_of a.view ≤ max_of b.view }
+    ensures flag_within { (c d : Cluster) (moves : List (ℕ × Move)) → IsFreshCluster c → Run c moves d → (a b : DoubleCollect c moves d)
+        → IsFollowedBy a.view b.view → flag_of a.view ≡ true → flag_of b.view ≡ true }
+    ensures members_within { (c d : Cluster) (moves : List (ℕ × Move)) → IsFreshCluster c → Run c moves d → (a b : DoubleCollect c moves d)
+        → IsFollowedBy a.view b.view → (k : ℕ) → set.contains (set_of a.view) k ≡ true → set.contains (set_of b.view) k ≡ true }
+    ensures max { (c d : Cluster) (moves : List (ℕ × Move)) → IsFreshCluster c → Run c moves d → RoundsMeet d
+        → (a : DoubleCollect c moves d) (moment : Moment c moves) (q s r k : ℕ) → IsDone moment.now q s r (command.WriteMax k)
+        → IsAhead moment.now a.node a.x a.y → k ≤ max_of a.view }
+    ensures flag { (c d : Cluster) (moves : List (ℕ × Move)) → IsFreshCluster c → Run c moves d → RoundsMeet d
+        → (a : DoubleCollect c moves d) (moment : Moment c moves) (q s r : ℕ) → IsDone moment.now q s r command.SetFlag
+        → IsAhead moment.now a.node a.x a.y → flag_of a.view ≡ true }
+    ensures member { (c d : Cluster) (moves : List (ℕ × Move)) → IsFreshCluster c → Run c moves d → RoundsMeet d
+        → (a : DoubleCollect c moves d) (moment : Moment c moves) (q s r k : ℕ) → IsDone moment.now q s r (command.AddMember k)
+        → IsAhead moment.now a.node a.x a.y → set.contains (set_of a.view) k ≡ true }
+{}
+
+/// And whoever enters, leaves or is retired: of two double collects the one with the earlier moment is within the other one where
+/// one node acknowledged what its first collect stored back, and replied to the query of the other one's second collect
+/// (`comparable`, `in_turn`). So it is of a write and such a collect (`stored`).
+pub fn shared_nodes_tell_double_collects()
+    ensures comparable { (c d : Cluster) (moves : List (ℕ × Move)) → IsFreshCluster c → Run c moves d → (a b : DoubleCollect c moves d)
+        → a.moment.made ≤ b.moment.made → ShareNode b.moment.now d a.node a.s a.r b.node b.x b.y → IsFollowedBy a.view b.view }
+    ensures in_turn { (c d : Cluster) (moves : List (ℕ × Move)) → IsFreshCluster c → Run c moves d → (a b : DoubleCollect c moves d)
+        (moment : Moment c moves) → IsAnswered moment.now a.node a.x a.y (answer.Seen a.view) → IsAhead moment.now b.node b.s b.r
+        → ShareNode b.moment.now d a.node a.s a.r b.node b.x b.y → IsFollowedBy a.view b.view }
+    ensures stored { (c d : Cluster) (moves : List (ℕ × Move)) → IsFreshCluster c → Run c moves d → (a : DoubleCollect c moves d)
+        (moment : Moment c moves) (q n s r : ℕ) → IsStored moment.now q n s r → IsAhead moment.now a.node a.x a.y
+        → ShareNode moment.now d q s r a.node a.x a.y → SeesWrite d a.view q n }
 {}

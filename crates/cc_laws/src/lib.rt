@@ -11,7 +11,9 @@ mod regular;
 mod rounds;
 
 pub use clusters::cluster_agrees;
-pub use double_collects::equal_collects_are_a_snapshot;
+pub use double_collects::{
+    equal_collects_are_a_snapshot, readings_of_double_collects, shared_nodes_tell_double_collects,
+};
 pub use histories::{one_line, outputs_have_events, views_follow};
 pub use lives::{
     crashes_end_lives, history_is_accepted, lives_hold, lives_join, moments_end_lives,

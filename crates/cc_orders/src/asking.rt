@@ -9,6 +9,9 @@ use std::net::SocketAddr;
 // How many seconds a client waits where no word says another number.
 const TIMEOUT: u64 = 10;
 
+// A collect of a snapshot.
+const SNAPSHOT: &str = "snapshot";
+
 /// The words of `ask`, as they are given. None for one that isn't.
 #[derive(Clone, Copy)]
 pub struct AskWords<'a> {
@@ -23,6 +26,8 @@ pub struct AskWords<'a> {
     pub form: AnswerForm,
     /// Whether it asks again while the node hasn't joined.
     pub waits: bool,
+    /// Whether a reading is of a snapshot.
+    pub snapshot: bool,
     /// Where the node tells its status.
     pub status: Option<&'a str>,
 }
@@ -48,6 +53,8 @@ pub struct AskOrder {
     pub form: AnswerForm,
     /// Whether it asks again while the node hasn't joined.
     pub waits: bool,
+    /// Whether the command, a reading, reads what all nodes had at one moment.
+    pub snapshot: bool,
     /// Where the node tells why it isn't ready, which is looked up where no answer came. None where it isn't.
     pub status: Option<SocketAddr>,
 }
@@ -64,13 +71,14 @@ impl AskOrder {
             timeout,
             form: AnswerForm::Plain,
             waits: false,
+            snapshot: false,
             status: None,
         }
     }
 
     /// What these words ask for. The fault names the first word of another form.
     pub fn parse(words: &AskWords<'_>) -> Result<Self, WordFault> {
-        Ok(AskOrder {
+        let order = AskOrder {
             address: address(words.address).ok_or(WordFault::Address)?,
             session: number(words.session).ok_or(WordFault::Session)?,
             command: command_in(words).ok_or(WordFault::Command)?,
@@ -78,13 +86,32 @@ impl AskOrder {
             timeout: seconds(words.timeout).ok_or(WordFault::Timeout)?,
             form: words.form,
             waits: words.waits,
+            snapshot: words.snapshot || words.command == SNAPSHOT,
             status: address_in(words.status, WordFault::Status)?,
-        })
+        };
+        if order.snapshot && !order.may_be_of_snapshot() {
+            return Err(WordFault::Snapshot);
+        }
+        Ok(order)
+    }
+
+    // A snapshot is read, by several requests.
+    fn may_be_of_snapshot(&self) -> bool {
+        self.request.is_none() && is_reading(&self.command)
+    }
+}
+
+fn is_reading(command: &Command) -> bool {
+    match command {
+        Command::Collect | Command::ReadMax | Command::ReadFlag | Command::ReadSet => true,
+        Command::Store(_) | Command::WriteMax(_) | Command::SetFlag | Command::AddMember(_) =>
+            false,
     }
 }
 
 fn command_in(words: &AskWords<'_>) -> Option<Command> {
     match (words.value, words.text) {
+        (None, None) if words.command == SNAPSHOT => Some(Command::Collect),
         (None, None) => command(&[words.command]),
         (Some(value), None) => command(&[words.command, value]),
         (None, Some(text)) if words.command == "store" => store_of(text),

@@ -65,7 +65,7 @@ fn print_unknown<W: fmt::Write>(
     match nearest {
         Some(nearest) => write!(f, "; did you mean {nearest}?"),
         None => f.write_str(
-            ": store WORD, collect, max N, readmax, flag, readflag, add N, readset",
+            ": store WORD, collect, snapshot, max N, readmax, flag, readflag, add N, readset",
         ),
     }
 }
@@ -79,9 +79,10 @@ enum Operand {
     Number(u64),
 }
 
-const COMMANDS: [(&str, Operand); 8] = [
+const COMMANDS: [(&str, Operand); 9] = [
     ("store", Operand::Text),
     ("collect", Operand::Nothing),
+    ("snapshot", Operand::Nothing),
     ("max", Operand::Number(u64::MAX)),
     ("readmax", Operand::Nothing),
     ("flag", Operand::Nothing),

@@ -32,6 +32,8 @@ pub enum WordFault {
     Session,
     Command,
     Request,
+    /// A command that isn't a reading is to be of a snapshot, or it has a number.
+    Snapshot,
     Timeout,
     Addresses,
     AddressTwice,
@@ -79,9 +81,12 @@ impl WordFault {
             WordFault::Log => "--log isn't one of: error, warn, info, debug",
             WordFault::Session => "SESSION isn't a number, such as 7",
             WordFault::Command => {
-                "COMMAND isn't one of: store WORD, collect, max N, readmax, flag, readflag, add N, readset"
+                "COMMAND isn't one of: store WORD, collect, snapshot, max N, readmax, flag, readflag, add N, readset"
             }
             WordFault::Request => "--request isn't a number from 1 on, such as 12",
+            WordFault::Snapshot => {
+                "--snapshot is for collect, readmax, readflag and readset, without --request"
+            }
             WordFault::Timeout => "--timeout isn't a number of seconds, such as 10",
             WordFault::Addresses => {
                 "ADDRS isn't a list of addresses and ports, such as 127.0.0.1:7001,127.0.0.1:7002"

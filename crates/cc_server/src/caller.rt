@@ -125,7 +125,7 @@ impl<R: Wait + Log, I: Input, S: Admitting, D: Replies, F: Flushed> Caller<'_, R
 
     // Whatever becomes of it, what a node sends tells that it is there: over a connection that may bring it.
     fn hear_voice(&self, event: &Event) {
-        if !self.admitting.may_bring(event) {
+        if !self.admitting.may_come(event) {
             return;
         }
         if let Some(peer) = speaker_of(event) {

@@ -29,9 +29,9 @@ pub struct Watch<'x> {
     pub shared: &'x Shared,
 }
 
-/// Sends what earlier lives left unacknowledged, and then takes a turn each time that it is woken, and more where one batch didn't
-/// take all that waited, until nothing is left after `done` was set. What nobody woke it for waits for the next turn. After each turn it looks what lapses, and at each tick how
-/// the peers stand.
+/// Takes a turn each time that it is woken, and more where one batch didn't take all that waited, until nothing is left after `done`
+/// was set. What nobody woke it for waits for the next turn. At its start it sends itself what earlier lives left unacknowledged, and
+/// each peer as soon as that is connected to. After each turn it looks what lapses, and at each tick how the peers stand.
 pub fn flush_all<S: Site, L: Life, Q: Lane, R: Wait + Clock>(
     rt: &R,
     turner: &mut Turner<S, L, Q>,
@@ -47,6 +47,9 @@ pub fn flush_all<S: Site, L: Life, Q: Lane, R: Wait + Clock>(
     for _ in rt.forever() {
         let is_done = watch.shared.done.is_set();
         watch.shared.waker.look();
+        if watch.shared.waker.take_connected() {
+            send_kept(rt, turner, watch)?;
+        }
         let events = turn(rt, turner, queue, admission)?;
         if events > 0 {
             tally.commit(events);
@@ -78,14 +81,21 @@ pub fn flush_all<S: Site, L: Life, Q: Lane, R: Wait + Clock>(
     unreachable!()
 }
 
-// Sends what earlier lives left unacknowledged: a peer that lacks it refuses each later post.
+// Sends again what wasn't acknowledged, to the peers that were connected to since the last call, and to the node itself unless
+// something waits for it: who lacks a post refuses each later one.
 fn send_kept<S: Site, L: Life, Q: Lane, R: Wait>(
     rt: &R,
     turner: &mut Turner<S, L, Q>,
     watch: &Watch<'_>,
 ) -> Result<(), Failed> {
-    resend(turner, watch.shared)?;
-    tell_withheld(rt, watch.alloc, turner.engine().twin().core(), watch.shared);
+    let shared = watch.shared;
+    shared.channels.mute_all_but_new();
+    shared.own.mute();
+    let resent = turner.resend();
+    tell_withheld(rt, watch.alloc, turner.engine().twin().core(), shared);
+    shared.own.unmute();
+    shared.channels.unmute();
+    resent?;
     Ok(())
 }
 

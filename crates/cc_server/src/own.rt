@@ -1,5 +1,8 @@
 //! The worker of what a node sends to itself.
 
+ghost use Rattle.std.specs.Prelude.{◌≡◌, Some, IfSome};
+ghost use Rattle.cc_server.specs.Serving.{brings_again};
+
 use crate::context::Context;
 use crate::duties::duty_of;
 use cc_channels::{Admission, Flushed};
@@ -22,7 +25,10 @@ struct Own<'a, R: Wait, F: Flushed> {
 }
 
 impl<R: Wait, F: Flushed> Own<'_, R, F> {
-    fn event(&mut self) -> Option<Event> {
+    // The event that comes next: the one that is due, if one is.
+    fn event(&mut self) -> Option<Event>
+        ensures { IfSome self.old.due (λ due. result ≡ Some due) }
+    {
         match self.due.take() {
             Some(event) => Some(event),
             None => self.from.recv(self.rt).unwrap_or(None),
@@ -41,7 +47,9 @@ impl<R: Wait, F: Flushed> Own<'_, R, F> {
     }
 
     // Does a duty. Whether that is to bring the event again.
-    fn act(&self, duty: Duty) -> bool {
+    fn act(&self, duty: Duty) -> bool
+        ensures { result ≡ brings_again duty }
+    {
         match duty {
             Duty::Wake => self.shared.waker.wake(),
             Duty::Defer => self.shared.waker.defer(),
@@ -54,9 +62,11 @@ impl<R: Wait, F: Flushed> Own<'_, R, F> {
 }
 
 impl<R: Wait, F: Flushed> Source for Own<'_, R, F> {
-    ghost gives = { λ s e t. Unit {0} };
+    ghost use Rattle.cc_server.specs.Serving.{due_after};
 
-    ghost hears = { λ s e a t. Unit {0} };
+    ghost gives = { λ s e t. IfSome s.due (λ due. IfSome e (λ given. given ≡ due)) };
+
+    ghost hears = { λ s e a t. t.due ≡ due_after e a };
 
     fn next(&mut self) -> Option<Event> {
         let event = self.event()?;

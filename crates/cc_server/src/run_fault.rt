@@ -1,5 +1,9 @@
 //! Why a node doesn't run.
 
+ghost use Rattle.std.specs.Prelude.{◌≡◌};
+ghost use Rattle.cc_server.specs.declared.run_fault.RunFault.TheVariants as faults;
+ghost use Rattle.cc_server.specs.Faults.{of_site};
+
 use cc_checkpoint::OpenFault;
 use cc_files::SiteFault;
 use cc_flush::Failed;
@@ -39,30 +43,41 @@ impl fmt::Display for RunFault {
 impl Error for RunFault {}
 
 impl From<AllocError> for RunFault {
+    ghost from_gives = { λ _ fault. fault ≡ faults.NoMemory };
+
     fn from(_: AllocError) -> Self {
         RunFault::NoMemory
     }
 }
 
 impl<T: Drop> From<AllocFailed<T>> for RunFault {
+    ghost from_gives = { λ _ fault. fault ≡ faults.NoMemory };
+
     fn from(_: AllocFailed<T>) -> Self {
         RunFault::NoMemory
     }
 }
 
 impl From<NoMemory> for RunFault {
+    ghost from_gives = { λ _ fault. fault ≡ faults.NoMemory };
+
     fn from(_: NoMemory) -> Self {
         RunFault::NoMemory
     }
 }
 
 impl From<OpenFault> for RunFault {
+    ghost from_gives = { λ fault run_fault. run_fault ≡ faults.Open fault };
+
     fn from(fault: OpenFault) -> Self {
         RunFault::Open(fault)
     }
 }
 
+/// A file that can't be opened is told like a disk call that fails while the folder is opened.
 impl From<SiteFault> for RunFault {
+    ghost from_gives = { λ fault run_fault. run_fault ≡ of_site fault };
+
     fn from(fault: SiteFault) -> Self {
         match fault {
             SiteFault::Device(fault) => RunFault::Open(OpenFault::Device(fault)),

@@ -147,6 +147,7 @@ where
     R: Machine,
 {
     let (rt, alloc) = (context.rt, context.alloc);
+    let waker = &context.shared.waker;
     let over = Flag::new();
     let over = &over;
     let FarEnds {
@@ -164,7 +165,7 @@ where
             let mut writers = Vec::new(alloc);
             let mut is_whole = true;
             for end in far {
-                match scope.spawn(move || write_peer(rt, alloc, me, end, over)) {
+                match scope.spawn(move || write_peer(rt, alloc, me, end, waker, over)) {
                     Ok(writer) => {
                         let _ = writers.push(writer);
                     }

@@ -219,12 +219,13 @@ where
     R: Machine,
 {
     let me = follower.me;
+    let waker = &follower.shared.waker;
     let over = follower.over;
     let Ok(Some(end)) = follower.shared.channels.add(alloc, peer) else {
         return;
     };
     if scope
-        .spawn(move || write_peer(rt, alloc, me, end, over))
+        .spawn(move || write_peer(rt, alloc, me, end, waker, over))
         .is_ok()
     {
         give_notice(rt, me, &Notice::Added(peer.id, peer.address));

@@ -54,13 +54,17 @@ pub fn look<R: Wait>(rt: &R, core: &Core, shared: &Shared, looks: &mut Looks, is
     }
 }
 
-/// Tells each peer, and the node itself, which of the last posts are for others: what was withheld until now.
+/// Tells each peer, and the node itself, which of the last posts are for others: what was withheld until now. Those whose channel is
+/// muted it tells later.
 pub fn tell_withheld<R: Wait>(rt: &R, alloc: Global, core: &Core, shared: &Shared) {
     let me = core.me();
     for link in core.links().rows() {
         if let Some(channel) = shared.channel_to(link.peer) {
             tell_peer(rt, alloc, me, channel, shared);
         }
+    }
+    if shared.own.is_muted() {
+        return;
     }
     if let Some(posts) = shared.own.take_withheld(rt) {
         shared.gauges.send_skip();
@@ -69,6 +73,9 @@ pub fn tell_withheld<R: Wait>(rt: &R, alloc: Global, core: &Core, shared: &Share
 }
 
 fn tell_peer<R: Wait>(rt: &R, alloc: Global, me: NodeId, channel: &PeerChannel, shared: &Shared) {
+    if channel.is_muted() {
+        return;
+    }
     let Some(posts) = channel.take_withheld(rt) else {
         return;
     };

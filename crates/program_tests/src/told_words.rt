@@ -31,6 +31,7 @@ fn is_told<'a, R: Abort + AllocGlobal>(
         timeout: None,
         form: AnswerForm::Plain,
         waits: false,
+        snapshot: false,
         status: None,
     };
     let told = told(rt, &words);
@@ -80,6 +81,7 @@ fn a_bad_value_is_told_as_what_it_is(rt: HostRuntime) {
     check_text(&rt, "add", "5", "add takes no --text, as store does");
     check_value(&rt, "collect", "a", "collect takes no value");
     check_value(&rt, "readmax", "9", "readmax takes no value");
+    check_value(&rt, "snapshot", "a", "snapshot takes no value");
 }
 
 // Commands that are none, and what is told of each by itself.
@@ -87,12 +89,12 @@ const NO_COMMANDS: [(&str, &str); 4] = [
     ("red-max", "red-max is no command; did you mean readmax?"),
     (
         "sett",
-        "sett is no command: store WORD, collect, max N, readmax, flag, readflag, add N, readset",
+        "sett is no command: store WORD, collect, snapshot, max N, readmax, flag, readflag, add N, readset",
     ),
     ("Flag", "Flag is no command; did you mean flag?"),
     (
         "",
-        " is no command: store WORD, collect, max N, readmax, flag, readflag, add N, readset",
+        " is no command: store WORD, collect, snapshot, max N, readmax, flag, readflag, add N, readset",
     ),
 ];
 

@@ -304,6 +304,7 @@ fn collect() -> AskWords<'static> {
         timeout: None,
         form: AnswerForm::Plain,
         waits: false,
+        snapshot: false,
         status: None,
     }
 }
@@ -332,6 +333,7 @@ fn collect_within(seconds: u64) -> AskOrder {
         timeout: seconds,
         form: AnswerForm::Plain,
         waits: false,
+        snapshot: false,
         status: None,
     }
 }
@@ -361,6 +363,39 @@ fn a_request_may_have_a_number(rt: HostRuntime) {
         ..AskOrder::new(local(7001), 7, Command::Collect, 10)
     };
     assert!(rt; order == Ok(wanted));
+}
+
+// The same words, of a snapshot.
+fn of_snapshot<'a>(words: &AskWords<'a>) -> AskWords<'a> {
+    AskWords {
+        snapshot: true,
+        ..*words
+    }
+}
+
+// Whether these words ask for a snapshot.
+fn are_snapshot(words: &AskWords<'_>) -> bool {
+    AskOrder::parse(words)
+        == Ok(AskOrder {
+            snapshot: true,
+            ..collect_within(10)
+        })
+}
+
+// Whether these words can't be of a snapshot.
+fn are_no_snapshot(words: &AskWords<'_>) -> bool {
+    AskOrder::parse(words) == Err(WordFault::Snapshot)
+}
+
+#[test]
+fn a_snapshot_is_read(rt: HostRuntime) {
+    let snapshot = ask_with(&collect(), WordFault::Command, "snapshot");
+    assert!(rt; are_snapshot(&snapshot));
+    assert!(rt; are_snapshot(&of_snapshot(&collect())));
+    let write = ask_with(&collect(), WordFault::Command, "flag");
+    assert!(rt; are_no_snapshot(&of_snapshot(&write)));
+    let numbered = ask_with(&snapshot, WordFault::Request, "12");
+    assert!(rt; are_no_snapshot(&numbered));
 }
 
 /// Whether the words are none of a command.

@@ -64,6 +64,23 @@ const ASKED_AS_JSON: [(&[&str], Option<u64>, Told, &str); 7] = [
     ),
 ];
 
+// What each reading prints of a snapshot after that, where nobody else writes.
+const SNAPSHOTS: [(&[&str], AnswerForm, &str); 5] = [
+    (
+        &["collect"],
+        AnswerForm::Plain,
+        "Seen [1:6=a%3db/9/1/5+6]\ncollects 2\n",
+    ),
+    (&["readmax"], AnswerForm::Plain, "Max 9\ncollects 2\n"),
+    (&["readflag"], AnswerForm::Plain, "Flag 1\ncollects 2\n"),
+    (&["readset"], AnswerForm::Plain, "Set [5,6]\ncollects 2\n"),
+    (
+        &["readmax"],
+        AnswerForm::Json,
+        "{\"answer\":\"Max\",\"max\":\"9\",\"collects\":2}\n",
+    ),
+];
+
 /// What was asked was done.
 pub(crate) const DONE: Told = Told {
     status: 0,
@@ -177,6 +194,20 @@ fn ask_for_json<R: Abort + AllocGlobal + Net<Stream = TcpStream> + Clock>(rt: &R
     }
 }
 
+fn ask_for_snapshots<R: Abort + AllocGlobal + Net<Stream = TcpStream> + Clock>(
+    rt: &R,
+    one: SocketAddr,
+) {
+    for &(words, form, wanted) in &SNAPSHOTS {
+        let order = AskOrder {
+            snapshot: true,
+            form,
+            ..order(rt, one, words, 20)
+        };
+        assert!(rt; is_asked(rt, rt.alloc(), &order, DONE, wanted), "{wanted}");
+    }
+}
+
 // The operator at node 1, twice with each order: what was done before is told once more.
 fn operate<R: Abort + AllocGlobal + Net<Stream = TcpStream> + Clock>(rt: &R, one: SocketAddr) {
     let order = retirement(rt, one, 2, true);
@@ -200,6 +231,7 @@ fn operate<R: Abort + AllocGlobal + Net<Stream = TcpStream> + Clock>(rt: &R, one
 fn talk<R: Abort + AllocGlobal + Net<Stream = TcpStream> + Clock>(rt: &R, one: SocketAddr) {
     ask_all(rt, one);
     ask_for_json(rt, one);
+    ask_for_snapshots(rt, one);
     operate(rt, one);
     let late = order(rt, one, &["collect"], 20);
     assert!(rt;

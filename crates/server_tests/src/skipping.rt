@@ -3,12 +3,13 @@
 
 use crate::clients::sent;
 use crate::nodes::{Place, format_member_of, free_place, run, while_one_runs};
-use cc_channels::Stop;
+use cc_channels::{Stop, monotonic_millis};
 use cc_intake::NoHooks;
 use std::io::Read;
 use std::net::{Net, SocketAddr, TcpStream};
 use std::process::Abort;
 use std::test::*;
+use std::time::Clock;
 
 // Node 2 asks what node 1 knows: Query 1 2, its first post.
 const QUERY_OF_2: [u8; 30] = [
@@ -29,6 +30,9 @@ const SKIP: [u8; 21] = [
 const LONGEST: usize = 64;
 
 const ACK: u8 = 2;
+
+// How often node 2 ends its connection.
+const ENDED: u64 = 5;
 
 // The next frame, with zeros behind it.
 fn next_frame<R: Abort>(rt: &R, stream: &mut TcpStream) -> [u8; LONGEST] {
@@ -67,11 +71,24 @@ fn ask_as_2<R: Abort + Net<Stream = TcpStream>>(
 }
 
 // Neither peer has acknowledged the answer. Each is told of it first, before the sign of life of the first second.
-fn hear_anew<R: Abort + Net<Stream = TcpStream>>(rt: &R, second: &Place, third: &Place) {
-    let (mut to_2, _) = second.listener.accept().expect(rt, "a connection");
-    let (mut to_3, _) = third.listener.accept().expect(rt, "a connection");
-    assert!(rt; next_frame(rt, &mut to_2).starts_with(&REPLY));
-    assert!(rt; next_frame(rt, &mut to_3).starts_with(&SKIP));
+fn hear_anew<R: Abort + Clock + Net<Stream = TcpStream>>(rt: &R, second: &Place, third: &Place) {
+    hear_first(rt, second, &REPLY);
+    hear_first(rt, third, &SKIP);
+    // Node 2 has ended its connection. No write has to fail before it is connected to again, and no second has to pass.
+    let start = monotonic_millis(rt);
+    for _ in 0..ENDED {
+        hear_first(rt, second, &REPLY);
+    }
+    assert!(rt;
+        monotonic_millis(rt).saturating_sub(start) < ENDED * 1000,
+        "soon"
+    );
+}
+
+// What a peer hears first over its next connection, which it ends then.
+fn hear_first<R: Abort + Net<Stream = TcpStream>>(rt: &R, peer: &Place, frame: &[u8]) {
+    let (mut from_node, _) = peer.listener.accept().expect(rt, "a connection");
+    assert!(rt; next_frame(rt, &mut from_node).starts_with(frame));
 }
 
 #[test]

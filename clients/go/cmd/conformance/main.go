@@ -24,6 +24,8 @@ const (
 	patience = 120 * time.Second
 	// Each fiftieth operation gets no time to speak of.
 	haste = time.Millisecond
+	// A snapshot ends by its deadline where others write all the time.
+	snapshotPatience = 2 * time.Second
 )
 
 type line struct {
@@ -47,6 +49,11 @@ type driver struct {
 	client     *ccnode.Client
 }
 
+// What is read, by the letter of a plan.
+var readings = map[byte]string{
+	'c': "collect", 'n': "snapshot", 'M': "read_max", 'f': "read_flag", 'F': "read_flag", 'S': "read_set",
+}
+
 // The operation at a place, and its argument.
 func (d *driver) operation(place int) (string, any) {
 	letter := d.plan[(place+int(d.session))%len(d.plan)]
@@ -60,7 +67,7 @@ func (d *driver) operation(place int) (string, any) {
 	case letter == 'f' && 2*place >= d.operations:
 		return "flag", nil
 	}
-	return map[byte]string{'c': "collect", 'M': "read_max", 'f': "read_flag", 'F': "read_flag", 'S': "read_set"}[letter], nil
+	return readings[letter], nil
 }
 
 func (d *driver) ask(ctx context.Context, operation string, argument any) (any, error) {
@@ -70,6 +77,9 @@ func (d *driver) ask(ctx context.Context, operation string, argument any) (any, 
 	case "collect":
 		rows, err := d.client.Collect(ctx)
 		return rowsOf(rows), err
+	case "snapshot":
+		taken, err := d.client.Snapshot(ctx)
+		return map[string]any{"rows": rowsOf(taken.Rows), "collects": taken.Collects}, err
 	case "max":
 		return "Stored", d.client.Max(ctx, argument.(uint64))
 	case "read_max":
@@ -96,12 +106,19 @@ func rowsOf(rows []ccnode.Row) [][]any {
 // JSON has null for a nil slice.
 func listed(numbers []uint32) []uint32 { return append([]uint32{}, numbers...) }
 
-func (d *driver) answer(place int, operation string, argument any) any {
-	timeout := patience
-	if place%50 == 25 {
-		timeout = haste
+// How long an operation at a place may take.
+func timeoutOf(place int, operation string) time.Duration {
+	switch {
+	case place%50 == 25:
+		return haste
+	case operation == "snapshot":
+		return snapshotPatience
 	}
-	ctx, cancel := context.WithTimeout(context.Background(), timeout)
+	return patience
+}
+
+func (d *driver) answer(place int, operation string, argument any) any {
+	ctx, cancel := context.WithTimeout(context.Background(), timeoutOf(place, operation))
 	defer cancel()
 	answer, err := d.ask(ctx, operation, argument)
 	var late *ccnode.DeadlineExceededError

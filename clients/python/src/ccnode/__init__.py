@@ -12,6 +12,7 @@ from .errors import (
     Refused,
     SessionInUse,
 )
+from .snapshot import Snapshot
 from .watch import Change, Watch
 from .wire import Row
 
@@ -28,6 +29,7 @@ __all__ = [
     "Refused",
     "Row",
     "SessionInUse",
+    "Snapshot",
     "Watch",
     "connect",
 ]

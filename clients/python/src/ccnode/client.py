@@ -13,6 +13,7 @@ from .connection import Connection
 from .deadline import Deadline
 from .errors import ClientClosed, DeadlineExceeded, Fault, InvalidArgument, Malformed, Refusal, Refused, SessionInUse
 from .resolver import Address, Resolver
+from .snapshot import Snapshot, take_snapshot
 from .watch import Watch
 from .wire import Answer, Command, Refusing, Row, Told
 
@@ -71,9 +72,15 @@ class Client:
 
     def collect(self, *, timeout: Optional[float] = None) -> List[Row]:
         """The last row of each node that ever wrote, by ascending node."""
-        answer = self._call(wire.COLLECT, timeout)
-        assert isinstance(answer, wire.Seen)
-        return list(answer.rows)
+        return self._collect(self._deadline(timeout))
+
+    def snapshot(self, *, timeout: Optional[float] = None) -> Snapshot:
+        """What all nodes had at one moment: it collects until two collects in a row agree.
+
+        Where others write all the time no two may agree until the deadline. A longer one gives it more tries.
+        """
+        deadline = self._deadline(timeout)
+        return take_snapshot(lambda: self._collect(deadline))
 
     def max(self, number: int, *, timeout: Optional[float] = None) -> None:
         """Raises this node's maximum to `number`, at most 2^64 - 1; a smaller one leaves it as it is."""
@@ -130,8 +137,18 @@ class Client:
         with self._turn_by(deadline):
             self._learn(deadline)
 
+    def _deadline(self, timeout: Optional[float]) -> Deadline:
+        return Deadline(self._timeout if timeout is None else _seconds(timeout))
+
+    def _collect(self, deadline: Deadline) -> List[Row]:
+        answer = self._call_by(deadline, wire.COLLECT)
+        assert isinstance(answer, wire.Seen)
+        return list(answer.rows)
+
     def _call(self, command: Command, timeout: Optional[float]) -> Answer:
-        deadline = Deadline(self._timeout if timeout is None else _seconds(timeout))
+        return self._call_by(self._deadline(timeout), command)
+
+    def _call_by(self, deadline: Deadline, command: Command) -> Answer:
         is_asked = False
         with self._turn_by(deadline):
             try:

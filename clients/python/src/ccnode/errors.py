@@ -51,7 +51,7 @@ class ClientClosed(CcnodeError):
 
 
 class DeadlineExceeded(CcnodeError, TimeoutError):
-    """No answer came in time.
+    """No answer came in time, or no two collects in a row of a snapshot agreed.
 
     Where `is_pending`, what was asked may have been done, and the client's next call first asks it again until it is; else
     it was never sent. `__cause__` is why the last attempt failed: an OSError, or the Refused that the node told last.

@@ -32,6 +32,7 @@ fn a_look_up_counts_in_the_deadline() {
         Err(Error::DeadlineExceeded {
             is_pending: false,
             cause: Cause::Io(why),
+            ..
         }) => assert_eq!(why.kind(), io::ErrorKind::TimedOut),
         other => panic!("{other:?}"),
     }

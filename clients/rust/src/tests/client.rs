@@ -2,7 +2,7 @@ use super::scripted_node::{
     learned, refused, refusing, reply, reply_of, row, unhex, Ask, ScriptedNode, Step, FLAG_OFF,
     SEEN_NOTHING, SESSION, STORED,
 };
-use crate::{connect, connect_timeout, Cause, Client, Error, Fault, Refusal};
+use crate::{connect, connect_timeout, Cause, Client, Error, Fault, Refusal, Row, Snapshot};
 use std::net::{SocketAddr, TcpListener};
 use std::time::Duration;
 
@@ -35,6 +35,31 @@ fn asked(node: &ScriptedNode) -> Vec<Ask> {
 fn asks_of(asks: &[(u64, &str)]) -> Vec<Ask> {
     asks.iter()
         .map(|(request, command)| (*request, (*command).to_string()))
+        .collect()
+}
+
+/// What a client asks by collects under these numbers.
+fn collects_of(requests: &[u64]) -> Vec<Ask> {
+    let asks: Vec<(u64, &str)> = requests.iter().map(|request| (*request, COLLECT)).collect();
+    asks_of(&asks)
+}
+
+/// Views that differ.
+fn views() -> [String; 3] {
+    let other = row(2, 1, "b");
+    [
+        format!("020001{}", row(1, 1, "a")),
+        format!("020002{}{other}", row(1, 1, "a")),
+        format!("020002{}{other}", row(1, 2, "c")),
+    ]
+}
+
+/// A reply with each view to requests from the first one on.
+fn replies(first: u64, views: &[impl AsRef<str>]) -> Vec<Step> {
+    let requests = first..;
+    requests
+        .zip(views)
+        .map(|(request, view)| reply(request, view.as_ref()))
         .collect()
 }
 
@@ -128,7 +153,8 @@ fn what_passes_until_the_deadline_is_its_cause() {
         why,
         Error::DeadlineExceeded {
             is_pending: true,
-            cause: Cause::Refused(Refusal::NotJoined)
+            cause: Cause::Refused(Refusal::NotJoined),
+            collects: 0,
         }
     ));
 }
@@ -295,6 +321,7 @@ fn a_request_that_was_never_sent_is_not_pending() {
         Err(Error::DeadlineExceeded {
             is_pending: false,
             cause: Cause::Io(_),
+            collects: 0,
         }) => {}
         other => panic!("{:?}", other.map(|_| ())),
     }
@@ -319,16 +346,7 @@ fn arguments_are_looked_at_before_anything_is_sent() {
 
 #[test]
 fn a_watch_tells_what_changed() {
-    let other = row(2, 1, "b");
-    let views = [
-        format!("020001{}", row(1, 1, "a")),
-        format!("020002{}{other}", row(1, 1, "a")),
-        format!("020002{}{other}", row(1, 2, "c")),
-    ];
-    let replies = (6..)
-        .zip(&views)
-        .map(|(request, view)| reply(request, view));
-    let node = node(replies.chain([Step::Silence]));
+    let node = node(replies(6, &views()).into_iter().chain([Step::Silence]));
     let mut client = client(&node);
     client.set_timeout(4 * SHORT);
     let mut watch = client.watch(Duration::from_millis(1));
@@ -348,4 +366,110 @@ fn a_watch_tells_what_changed() {
         watch.next(),
         Some(Err(Error::DeadlineExceeded { .. }))
     ));
+}
+
+#[test]
+fn a_snapshot_is_what_two_collects_in_a_row_show() {
+    let a = Row {
+        node: 1,
+        number: 1,
+        text: b"a".to_vec(),
+        max: 0,
+        flag: false,
+        set: vec![],
+    };
+    let [view, ..] = views();
+    for (view, rows) in [(SEEN_NOTHING, vec![]), (&view, vec![a])] {
+        let steps = replies(6, &[view, view]);
+        let node = node(steps.into_iter().chain([reply(8, STORED)]));
+        let mut client = client(&node);
+        let taken = Snapshot { rows, collects: 2 };
+        assert_eq!(client.snapshot().expect("a snapshot"), taken);
+        client.store("a").expect("stored");
+        let asks = [(6, COLLECT), (7, COLLECT), (8, STORE_A)];
+        assert_eq!(asked(&node), asks_of(&asks));
+    }
+}
+
+#[test]
+fn a_snapshot_collects_until_two_in_a_row_agree() {
+    let [one, other, last] = views();
+    for first in [&one, &other] {
+        let node = node(replies(6, &[first, &last, &last]));
+        let taken = client(&node).snapshot().expect("a snapshot");
+        let shown: Vec<_> = taken
+            .rows
+            .into_iter()
+            .map(|row| (row.node, row.number, row.text))
+            .collect();
+        assert_eq!(shown, [(1, 2, b"c".to_vec()), (2, 1, b"b".to_vec())]);
+        assert_eq!(taken.collects, 3);
+        assert_eq!(asked(&node), collects_of(&[6, 7, 8]));
+    }
+}
+
+#[test]
+fn no_two_collects_in_a_row_agree() {
+    let views = views();
+    for requests in [&[6, 7, 8, 8][..], &[6, 7, 8, 9, 9]] {
+        let answered = requests.len() - 2;
+        let late = requests[answered];
+        let steps = [
+            Step::Silence,
+            reply(late, &views[2]),
+            reply(late + 1, STORED),
+        ];
+        let node = node(replies(6, &views[..answered]).into_iter().chain(steps));
+        let mut client = client(&node);
+        client.set_timeout(4 * SHORT);
+        let why = client.snapshot().expect_err("no snapshot");
+        let text = format!("no two in a row of {answered} collects agree, since others write");
+        assert_eq!(why.to_string(), text);
+        assert!(is_late(Err(why)));
+        client.set_timeout(LONG);
+        client.store("a").expect("stored");
+        let mut asks = collects_of(requests);
+        asks.extend(asks_of(&[(late + 1, STORE_A)]));
+        assert_eq!(asked(&node), asks);
+    }
+}
+
+#[test]
+fn too_few_collects_to_compare() {
+    for answered in [0, 1] {
+        let steps = replies(6, &views()[..answered]);
+        let node = node(steps.into_iter().chain([Step::Silence]));
+        let mut client = client(&node);
+        client.set_timeout(4 * SHORT);
+        let why = client.snapshot().expect_err("no snapshot");
+        assert!(why.to_string().starts_with("no answer in time"), "{why}");
+        assert!(is_late(Err(why)));
+    }
+}
+
+#[test]
+fn all_collects_of_a_snapshot_have_one_deadline() {
+    let views: Vec<_> = (0..20_000)
+        .map(|number| format!("020001{}", row(1, number, "a")))
+        .collect();
+    let node = node(replies(6, &views));
+    let mut client = client(&node);
+    client.set_timeout(2 * SHORT);
+    match client.snapshot() {
+        Err(Error::DeadlineExceeded { collects: 2.., .. }) => {}
+        other => panic!("{other:?}"),
+    }
+    let asks = asked(&node);
+    assert!(asks.len() < views.len());
+    let requests: Vec<u64> = (6..).take(asks.len()).collect();
+    assert_eq!(asks, collects_of(&requests));
+}
+
+#[test]
+fn a_connection_that_breaks_between_the_collects_of_a_snapshot() {
+    let [view, ..] = views();
+    let node = node([reply(6, &view), Step::Close, reply(7, &view)]);
+    let taken = client(&node).snapshot().expect("a snapshot");
+    assert_eq!(taken.collects, 2);
+    assert_eq!(asked(&node), collects_of(&[6, 7, 7]));
 }
