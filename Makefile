@@ -3,7 +3,7 @@
     cluster load kill-cluster soak soak-absent hostile closed-streams dead-member refused-flood stray-frames many-sessions \
     stale-collects costs worked-rows trusted links beside look look-picture hostile-status mistakes deb test-systemd \
     tls-cluster clients page-bytes one-session half-close idle-cluster power-cut slow-readers full-pipe operator-places many-nodes \
-    upgrade chain first-store snapshots
+    upgrade chain first-store snapshots partial-writes
 
 # Plays the script that ships with the program before any proof.
 try:
@@ -221,6 +221,11 @@ operator-places:
 slow-readers:
 	@$(BUILD) ccnode
 	@python3 tools/slow_readers.py crates/ccnode/out/ccnode
+
+# Has a client read long replies and refusals bit by bit, and compares each frame: half a minute.
+partial-writes:
+	@$(BUILD) ccnode
+	@python3 tools/partial_writes.py crates/ccnode/out/ccnode
 
 # Sends the frames of docs/FORMATS.md to nodes on loopback, and compares what comes back: seconds.
 page-bytes:

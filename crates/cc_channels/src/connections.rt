@@ -1,5 +1,6 @@
 //! The connections that are open, and which of them asked last in each session.
 
+use crate::at_once::write_at_once;
 use crate::flags::Flag;
 use crate::offer::offer;
 use cc_ops::Asked;
@@ -16,13 +17,16 @@ use std::sync::{Arc, Condvar, Mutex, Wait};
 // one turn may pass on to a connection that has 32 sessions.
 const MOST_WAITING: u64 = 262_144 + 32 * 55_077;
 
-/// One connection: its socket, and the channel to its writer.
+/// One connection: its socket, and the channel to its writer. Whoever has bytes for its client writes what the socket takes at once,
+/// and leaves the rest to the writer.
 #[derive(Drop)]
 pub struct Connection {
     stream: Arc<TcpStream>,
     out: Sender<Vec<u8>>,
-    // How many bytes wait for the writer.
+    // How many bytes wait for the writer. It writes nothing where none do.
     waiting: Arc<AtomicU64>,
+    // Who holds it writes, or has more bytes wait.
+    turn: Mutex<()>,
     // It is closed.
     over: Flag,
 }
@@ -33,6 +37,7 @@ impl Connection {
             stream,
             out,
             waiting,
+            turn: Mutex::new(()),
             over: Flag::new(),
         }
     }
@@ -49,18 +54,52 @@ impl Connection {
 
     /// Passes bytes on, without waiting. Where too much waits already its client reads too slowly, and it is closed.
     pub fn pass<R: Wait>(&self, rt: &R, bytes: Vec<u8>) {
-        let count = bytes.len() as u64;
-        let waiting = self.waiting.fetch_add(count, Ordering::SeqCst);
-        let is_plenty = waiting > MOST_WAITING;
-        if is_plenty || !offer(rt, &self.out, bytes) {
+        let turn = self.turn.lock(rt);
+        if !self.write_or_offer(rt, bytes) {
             self.close();
         }
+        drop(turn);
     }
 
     /// Passes bytes on, and waits for room: only the worker of this very connection calls it.
     pub fn pass_in_turn<R: Wait>(&self, rt: &R, bytes: Vec<u8>) {
+        let turn = self.turn.lock(rt);
+        if self.is_idle() {
+            if !self.write_or_offer(rt, bytes) {
+                self.close();
+            }
+            drop(turn);
+            return;
+        }
+        // What waits from now on keeps others from writing.
         self.waiting.fetch_add(bytes.len() as u64, Ordering::SeqCst);
+        drop(turn);
         drop(self.out.send(rt, bytes));
+    }
+
+    // Whether nothing waits for the writer, which then has written all that it took.
+    fn is_idle(&self) -> bool {
+        self.waiting.load(Ordering::SeqCst) == 0
+    }
+
+    // Writes what the socket takes at once, unless something waits already, and leaves the rest to the writer. False where that can't
+    // be. It is called by who has the turn.
+    fn write_or_offer<R: Wait>(&self, rt: &R, bytes: Vec<u8>) -> bool {
+        let mut bytes = bytes;
+        if self.is_idle() {
+            let written = write_at_once(&self.stream, bytes.as_slice());
+            bytes.drain(..written);
+            if bytes.is_empty() {
+                drop(bytes);
+                return true;
+            }
+        }
+        let waiting = self.waiting.fetch_add(bytes.len() as u64, Ordering::SeqCst);
+        if waiting > MOST_WAITING {
+            drop(bytes);
+            return false;
+        }
+        offer(rt, &self.out, bytes)
     }
 
     /// Ends reads and writes that wait.

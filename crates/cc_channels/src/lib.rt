@@ -4,6 +4,7 @@
 
 mod admission;
 mod admitting;
+mod at_once;
 mod connections;
 mod durable;
 mod flags;
