@@ -1,1 +1,2 @@
 pub mod Admissions
+pub mod SendBuffers

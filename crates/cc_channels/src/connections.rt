@@ -88,11 +88,11 @@ impl Connection {
         let mut bytes = bytes;
         if self.is_idle() {
             let written = write_at_once(&self.stream, bytes.as_slice());
-            bytes.drain(..written);
-            if bytes.is_empty() {
+            if written == bytes.len() {
                 drop(bytes);
                 return true;
             }
+            bytes.drain(..written);
         }
         let waiting = self.waiting.fetch_add(bytes.len() as u64, Ordering::SeqCst);
         if waiting > MOST_WAITING {

@@ -13,6 +13,8 @@ mod offer;
 mod own;
 mod peer_channel;
 mod peer_channels;
+mod peer_socket;
+mod send_buffer;
 mod spelling;
 mod waker;
 mod writing;

@@ -1,21 +1,19 @@
-//! The channel on which what is for a peer waits for its writer.
+//! The channel to a peer: what is for it, and how its connection stands.
 
 ghost use Rattle.std.specs.Prelude.{◌≤◌};
 
 use crate::flags::Flag;
 use crate::offer::offer;
+use crate::peer_socket::PeerSocket;
 use cc_frames::Peer;
 use cc_messages::PostRange;
 use cc_protocol::{Due, Parcel, Withheld};
 use cc_views::NodeId;
 use crossbeam_channel::{Receiver, Sender, bounded};
 use std::alloc::{AllocError, Global};
-use std::net::SocketAddr;
+use std::net::{SocketAddr, TcpStream};
 use std::sync::atomic::{AtomicU64, Ordering};
 use std::sync::{Arc, Mutex, Wait};
-
-// How many parcels wait for a peer's writer at most.
-pub(crate) const CHANNEL_ROOM: usize = 256;
 
 // After so many seconds in which a peer was late or silent, it is connected to anew.
 const MOST_SILENCE: u64 = 5;
@@ -24,12 +22,15 @@ const MOST_SILENCE: u64 = 5;
 #[derive(Drop)]
 pub struct PeerChannel {
     pub peer: NodeId,
-    to: Sender<Parcel>,
+    // Wakes its writer, which writes what the socket didn't take at once.
+    wake: Sender<()>,
+    // Something was put on it that isn't written.
+    is_due: Flag,
     // Nothing is put on it.
     is_muted: Flag,
     // The numbers of the last posts, which are for others.
     withheld: Mutex<Withheld>,
-    // What its writer is told, and what it tells.
+    // What it shares with its writer.
     way: Arc<Way>,
     // Something was put on it since the last heartbeat was due.
     is_used: Flag,
@@ -44,6 +45,7 @@ pub struct PeerChannel {
 /// How the connection to a peer stands, and where the peer listens.
 #[derive(Drop)]
 pub struct Way {
+    socket: Mutex<PeerSocket>,
     address: Mutex<SocketAddr>,
     // The peer is to be connected to anew.
     is_stale: Flag,
@@ -55,8 +57,9 @@ pub struct Way {
 
 impl Way {
     // To a peer that listens there, which isn't connected to yet.
-    fn new(address: SocketAddr) -> Self {
+    fn new(alloc: Global, address: SocketAddr) -> Self {
         Way {
+            socket: Mutex::new(PeerSocket::new(alloc)),
             address: Mutex::new(address),
             is_stale: Flag::new(),
             is_new: Flag::new(),
@@ -87,14 +90,22 @@ impl Way {
         self.is_stale.take()
     }
 
-    /// The peer is connected to since then, in milliseconds since 1970; at 0 it isn't.
-    pub fn put_connected(&self, since: u64) {
+    /// The peer is connected to since then, in milliseconds since 1970. It may lack what went into the connection before.
+    pub fn connect<R: Wait>(&self, rt: &R, stream: Arc<TcpStream>, since: u64) {
+        self.socket.lock(rt).connect(stream);
         self.connected_since.store(since, Ordering::SeqCst);
+        self.is_new.set();
     }
 
-    /// The peer was connected to anew: it may lack what went into the connection before.
-    pub fn renew(&self) {
-        self.is_new.set();
+    /// The peer isn't connected to any longer. What waits for it is lost.
+    pub fn disconnect<R: Wait>(&self, rt: &R) {
+        self.socket.lock(rt).disconnect();
+        self.connected_since.store(0, Ordering::SeqCst);
+    }
+
+    /// What the peer's writer is to write next. None where there is nothing, until it is woken.
+    pub fn next<R: Wait>(&self, rt: &R, me: NodeId) -> Option<Vec<u8>> {
+        self.socket.lock(rt).next(me)
     }
 }
 
@@ -104,14 +115,41 @@ fn moment(millis: u64) -> Option<u64> {
 }
 
 impl PeerChannel {
-    /// Puts a parcel on the channel. What finds no room is lost: links resend.
-    pub fn put<R: Wait>(&self, rt: &R, parcel: Parcel) {
+    /// Puts a parcel of the node `me` on the channel, which is written by the next call of `write`. What finds no room is lost: links
+    /// resend.
+    pub fn put<R: Wait>(&self, rt: &R, me: NodeId, parcel: Parcel) {
         if self.is_muted.is_set() {
             drop(parcel);
         } else {
             self.is_used.set();
-            let _ = offer(rt, &self.to, parcel);
+            self.push(rt, me, parcel);
         }
+    }
+
+    fn push<R: Wait>(&self, rt: &R, me: NodeId, parcel: Parcel) {
+        self.is_due.set();
+        let is_left = self.way.socket.lock(rt).put(me, parcel);
+        self.wake_if(rt, is_left);
+    }
+
+    /// Writes what was put of the node `me`, as much as the socket takes at once. The peer's writer writes the rest.
+    pub fn write<R: Wait>(&self, rt: &R, me: NodeId) {
+        if self.is_due.take() {
+            let is_left = self.way.socket.lock(rt).write(me);
+            self.wake_if(rt, is_left);
+        }
+    }
+
+    // Wakes the writer where something is left for it.
+    fn wake_if<R: Wait>(&self, rt: &R, is_left: bool) {
+        if is_left {
+            let _ = offer(rt, &self.wake, ());
+        }
+    }
+
+    // Whether the peer is connected to, and has taken all that was put.
+    fn is_idle<R: Wait>(&self, rt: &R) -> bool {
+        self.way.socket.lock(rt).is_idle()
     }
 
     /// What is to be written once a post is put for the peer under this number.
@@ -132,16 +170,16 @@ impl PeerChannel {
     }
 
     /// A second has passed: where nothing else was put on the channel in it, the peer is told again up to which number it was heard,
-    /// as a sign of life.
-    pub fn beat<R: Wait>(&self, rt: &R, heard: u64) {
-        if !self.is_used.take() && self.to.is_empty() {
-            let _ = offer(rt, &self.to, Parcel::Ack(heard));
+    /// as a sign of life of the node `me`.
+    pub fn beat<R: Wait>(&self, rt: &R, me: NodeId, heard: u64) {
+        if !self.is_used.take() && self.is_idle(rt) {
+            self.push(rt, me, Parcel::Ack(heard));
         }
     }
 
-    /// Mutes the channel where something waits on it.
-    pub fn mute(&self) {
-        self.is_muted.put(!self.to.is_empty());
+    /// Mutes the channel where something waits on it, or its peer isn't connected to.
+    pub fn mute<R: Wait>(&self, rt: &R) {
+        self.is_muted.put(!self.is_idle(rt));
     }
 
     /// Mutes the channel, unless its peer was connected to since the last call.
@@ -208,28 +246,30 @@ impl PeerChannel {
     }
 }
 
-/// The far end of a channel: a peer, and what its writer is to write, and where to.
+/// The far end of a channel, for the writer of its peer.
 #[derive(Drop)]
 pub struct FarEnd {
     pub peer: NodeId,
-    pub from: Receiver<Parcel>,
+    /// Wakes the writer.
+    pub woken: Receiver<()>,
     pub way: Arc<Way>,
 }
 
 /// The channel to a peer, and its far end.
 pub(crate) fn channel_to(alloc: Global, peer: &Peer) -> Result<(PeerChannel, FarEnd), AllocError> {
-    let way = Arc::new(alloc, Way::new(peer.address)).or(Err(AllocError))?;
+    let way = Arc::new(alloc, Way::new(alloc, peer.address)).or(Err(AllocError))?;
     let Ok(seen) = Arc::try_clone(&way) else {
         drop(way);
         return Err(AllocError);
     };
-    let Ok((to, from)) = bounded(alloc, CHANNEL_ROOM) else {
+    let Ok((wake, woken)) = bounded(alloc, 1) else {
         drop((way, seen));
         return Err(AllocError);
     };
     let channel = PeerChannel {
         peer: peer.id,
-        to,
+        wake,
+        is_due: Flag::new(),
         is_muted: Flag::new(),
         withheld: Mutex::new(Withheld::new()),
         way,
@@ -240,7 +280,7 @@ pub(crate) fn channel_to(alloc: Global, peer: &Peer) -> Result<(PeerChannel, Far
     };
     let end = FarEnd {
         peer: peer.id,
-        from,
+        woken,
         way: seen,
     };
     Ok((channel, end))

@@ -76,11 +76,21 @@ impl PeerChannels {
         false
     }
 
-    /// Mutes each channel on which something waits.
-    pub fn mute(&self) {
+    /// Writes what was put on the channels of the node `me`, as much as each socket takes at once.
+    pub fn write<R: Wait>(&self, rt: &R, me: NodeId) {
+        for slot in &self.slots {
+            let Some(channel) = slot.get() else {
+                return;
+            };
+            channel.write(rt, me);
+        }
+    }
+
+    /// Mutes each channel on which something waits, or whose peer isn't connected to.
+    pub fn mute<R: Wait>(&self, rt: &R) {
         for slot in &self.slots {
             if let Some(channel) = slot.get() {
-                channel.mute();
+                channel.mute(rt);
             }
         }
     }

@@ -1,17 +1,16 @@
 //! Writers: each writes to a stream what comes out of a channel.
 
 use crate::flags::Flag;
-use crate::peer_channel::{CHANNEL_ROOM, FarEnd};
+use crate::peer_channel::FarEnd;
 use crate::waker::Waker;
-use cc_protocol::{Bundle, Parcel};
-use cc_views::{NoMemory, NodeId};
+use cc_views::NodeId;
 use crossbeam_channel::Receiver;
 use log::{Log, info};
 use std::alloc::{AllocError, Global};
 use std::io::{ErrorKind, Write};
 use std::net::{Net, SocketAddr, TcpStream};
-use std::sync::Wait;
 use std::sync::atomic::{AtomicU64, Ordering};
+use std::sync::{Arc, Wait};
 use std::thread;
 use std::time::{Clock, Duration};
 
@@ -65,9 +64,9 @@ fn gather<R: Wait>(
     Ok(())
 }
 
-/// Writes to one peer, which it connects to again after a failure, until the flag is set. Each time it wakes the flusher, which sends
-/// again what the peer hasn't acknowledged. It notes when the node is connected, and when it isn't any longer: at most one of each a
-/// second, and the last note says what is so a second later.
+/// Writes to one peer what the flusher leaves. It connects to the peer, again after a failure, until the flag is set. Each time it
+/// wakes the flusher, which sends again what the peer hasn't acknowledged. It notes when the node is connected, and when it isn't any
+/// longer: at most one of each a second, and the last note says what is so a second later.
 pub fn write_peer<R: Wait + Clock + Log + Net<Stream = TcpStream>>(
     rt: &R,
     alloc: Global,
@@ -84,11 +83,9 @@ pub fn write_peer<R: Wait + Clock + Log + Net<Stream = TcpStream>>(
         let _ = end.way.take_stale();
         let address = end.way.address(rt);
         if let Ok(stream) = TcpStream::connect_timeout(rt, &address, Duration::from_secs(1)) {
-            end.way.put_connected(millis(rt));
             noted.connect(rt, me, end.peer, address);
-            renew(rt, &end, waker);
-            write_while(rt, alloc, me, &end, &stream, over);
-            end.way.put_connected(0);
+            let _ = write_over(rt, alloc, me, &end, stream, waker, over);
+            end.way.disconnect(rt);
         }
         noted.lose(rt, me, end.peer, address);
         thread::sleep(rt, Duration::from_millis(PAUSE_MS));
@@ -96,16 +93,28 @@ pub fn write_peer<R: Wait + Clock + Log + Net<Stream = TcpStream>>(
     unreachable!()
 }
 
-// The peer may lack what went into the connection before, and refuses what waits behind that. So it is sent all again, in its order.
-fn renew<R: Wait>(rt: &R, end: &FarEnd, waker: &Waker) {
-    for _ in 0..CHANNEL_ROOM {
-        match end.from.try_recv(rt) {
-            Ok(parcel) => drop(parcel),
-            Err(_) => break,
-        }
-    }
-    end.way.renew();
+// Shares a connection with the flusher, and writes what that leaves.
+fn write_over<R: Wait + Clock>(
+    rt: &R,
+    alloc: Global,
+    me: NodeId,
+    end: &FarEnd,
+    stream: TcpStream,
+    waker: &Waker,
+    over: &Flag,
+) -> Result<(), AllocError> {
+    let _ = stream.set_nodelay(true);
+    let _ = stream.set_write_timeout(Some(Duration::from_millis(PATIENCE_MS)));
+    let stream = Arc::new(alloc, stream).or(Err(AllocError))?;
+    let Ok(shared) = Arc::try_clone(&stream) else {
+        drop(stream);
+        return Err(AllocError);
+    };
+    end.way.connect(rt, shared, millis(rt));
     waker.connect();
+    write_while(rt, me, end, &stream, over);
+    drop(stream);
+    Ok(())
 }
 
 // What was noted of the connection to a peer.
@@ -162,35 +171,36 @@ pub fn monotonic_millis<R: Clock>(rt: &R) -> u64 {
 }
 
 // Writes until a write fails, the peer ends the connection, or a flag is set.
-fn write_while<R: Wait + Clock>(
-    rt: &R,
-    alloc: Global,
-    me: NodeId,
-    end: &FarEnd,
-    stream: &TcpStream,
-    over: &Flag,
-) {
-    let _ = stream.set_nodelay(true);
-    let _ = stream.set_write_timeout(Some(Duration::from_millis(PATIENCE_MS)));
-    let mut to: &TcpStream = stream;
+fn write_while<R: Wait + Clock>(rt: &R, me: NodeId, end: &FarEnd, stream: &TcpStream, over: &Flag) {
     for _ in rt.forever() {
         if over.is_set() || end.way.take_stale() {
             return;
         }
-        let Ok(first) = end.from.recv_timeout(rt, Duration::from_millis(PAUSE_MS)) else {
-            if is_ended(stream) {
-                return;
-            }
-            continue;
+        let is_over = match end.way.next(rt, me) {
+            Some(bytes) => !write_pieces(end, stream, bytes.as_slice(), over),
+            None => is_ended_after(rt, end, stream),
         };
-        let Ok(bytes) = bundled(rt, alloc, me, &end.from, first) else {
-            continue;
-        };
-        if to.write_all(bytes.as_slice()).is_err() {
+        if is_over {
             return;
         }
     }
     unreachable!()
+}
+
+// Writes bytes, unless a write fails or a flag is set meanwhile. Whether all are written.
+fn write_pieces(end: &FarEnd, mut to: &TcpStream, bytes: &[u8], over: &Flag) -> bool {
+    for piece in bytes.chunks(PLENTY) {
+        if over.is_set() || end.way.take_stale() || to.write_all(piece).is_err() {
+            return false;
+        }
+    }
+    true
+}
+
+// Waits until the flusher leaves something. Whether nothing came for a while, and the peer has ended the connection.
+fn is_ended_after<R: Wait + Clock>(rt: &R, end: &FarEnd, stream: &TcpStream) -> bool {
+    let woken = end.woken.recv_timeout(rt, Duration::from_millis(PAUSE_MS));
+    woken.is_err() && is_ended(stream)
 }
 
 // Whether the peer has ended the connection, of which a write would tell only at the second try.
@@ -204,42 +214,4 @@ fn is_ended(stream: &TcpStream) -> bool {
     };
     let _ = stream.set_nonblocking(false);
     is_ended
-}
-
-// The bytes of a parcel, and of those that wait behind it.
-fn bundled<R: Wait>(
-    rt: &R,
-    alloc: Global,
-    me: NodeId,
-    from: &Receiver<Parcel>,
-    first: Parcel,
-) -> Result<Vec<u8>, NoMemory> {
-    let mut bundle = Bundle::new(alloc);
-    match fill(rt, &mut bundle, from, first) {
-        Ok(()) => bundle.close(me),
-        Err(NoMemory) => {
-            drop(bundle);
-            Err(NoMemory)
-        }
-    }
-}
-
-// Adds a parcel, and those that wait behind it.
-fn fill<R: Wait>(
-    rt: &R,
-    bundle: &mut Bundle,
-    from: &Receiver<Parcel>,
-    first: Parcel,
-) -> Result<(), NoMemory> {
-    bundle.add(first)?;
-    for _ in 0..PLENTY {
-        if bundle.len() >= PLENTY {
-            break;
-        }
-        let Ok(parcel) = from.try_recv(rt) else {
-            break;
-        };
-        bundle.add(parcel)?;
-    }
-    Ok(())
 }

@@ -31,7 +31,8 @@ pub struct Watch<'x> {
 
 /// Takes a turn each time that it is woken, and more where one batch didn't take all that waited, until nothing is left after `done`
 /// was set. What nobody woke it for waits for the next turn. At its start it sends itself what earlier lives left unacknowledged, and
-/// each peer as soon as that is connected to. After each turn it looks what lapses, and at each tick how the peers stand.
+/// each peer as soon as that is connected to. After each turn it writes to the peers and looks what lapses, and at each tick how the
+/// peers stand.
 pub fn flush_all<S: Site, L: Life, Q: Lane, R: Wait + Clock>(
     rt: &R,
     turner: &mut Turner<S, L, Q>,
@@ -39,37 +40,44 @@ pub fn flush_all<S: Site, L: Life, Q: Lane, R: Wait + Clock>(
     admission: &Admission<OfLife<L>>,
     watch: &Watch<'_>,
 ) -> Result<(), Failed> {
+    let shared = watch.shared;
+    let me = turner.engine().twin().core().me();
     let mut is_fresh = true;
     let mut begun = 0;
     let mut looks = Looks::new();
     let mut tally = tally_of(turner.engine());
     send_kept(rt, turner, watch)?;
     for _ in rt.forever() {
-        let is_done = watch.shared.done.is_set();
-        watch.shared.waker.look();
-        if watch.shared.waker.take_connected() {
+        let is_done = shared.done.is_set();
+        shared.waker.look();
+        if shared.waker.take_connected() {
             send_kept(rt, turner, watch)?;
         }
         let events = turn(rt, turner, queue, admission)?;
         if events > 0 {
+            shared.channels.write(rt, me);
             tally.commit(events);
         }
-        let is_wished = grant_all(rt, turner, admission, watch.shared)?;
+        let is_wished = grant_all(rt, turner, admission, shared)?;
         is_fresh &= events == 0;
-        let is_tick = watch.shared.ticked.take();
+        let is_tick = shared.ticked.take();
         if is_tick {
-            resend(turner, watch.shared)?;
+            shared.channels.mute(rt);
+            resend(rt, turner, watch)?;
             if !is_fresh {
-                is_fresh = spare(rt, turner, watch.shared, &mut tally, &mut begun)?;
+                is_fresh = spare(rt, turner, shared, &mut tally, &mut begun)?;
             }
             show(rt, turner.engine(), watch, &mut tally);
-            enter(rt, turner, watch.shared);
+            enter(rt, turner, shared);
         }
-        let core = turner.engine().twin().core();
-        look(rt, core, watch.shared, &mut looks, is_tick);
-        if is_tick {
-            tell_withheld(rt, watch.alloc, core, watch.shared);
-        }
+        look(
+            rt,
+            turner.engine().twin().core(),
+            shared,
+            &mut looks,
+            is_tick,
+        );
+        shared.channels.write(rt, me);
         if events >= Batch::MAX_ENTRIES as u64 || turner.keeps_one() || is_wished {
             continue;
         }
@@ -81,15 +89,25 @@ pub fn flush_all<S: Site, L: Life, Q: Lane, R: Wait + Clock>(
     unreachable!()
 }
 
-// Sends again what wasn't acknowledged, to the peers that were connected to since the last call, and to the node itself unless
-// something waits for it: who lacks a post refuses each later one.
+// Sends again what wasn't acknowledged, to the peers that were connected to since the last call: who lacks a post refuses each
+// later one.
 fn send_kept<S: Site, L: Life, Q: Lane, R: Wait>(
     rt: &R,
     turner: &mut Turner<S, L, Q>,
     watch: &Watch<'_>,
 ) -> Result<(), Failed> {
+    watch.shared.channels.mute_all_but_new();
+    resend(rt, turner, watch)
+}
+
+// Sends again what wasn't acknowledged, and tells what is withheld: to the peers whose channel isn't muted, and to the node itself
+// unless something waits for it.
+fn resend<S: Site, L: Life, Q: Lane, R: Wait>(
+    rt: &R,
+    turner: &mut Turner<S, L, Q>,
+    watch: &Watch<'_>,
+) -> Result<(), Failed> {
     let shared = watch.shared;
-    shared.channels.mute_all_but_new();
     shared.own.mute();
     let resent = turner.resend();
     tell_withheld(rt, watch.alloc, turner.engine().twin().core(), shared);
@@ -169,20 +187,6 @@ fn grant<S: Site, L: Life, Q: Lane, R: Wait>(
         }
     }
     Ok(true)
-}
-
-// Sends again what wasn't acknowledged, but nothing to those for whom something waits already.
-fn resend<S: Site, L: Life, Q: Lane>(
-    turner: &mut Turner<S, L, Q>,
-    shared: &Shared,
-) -> Result<(), Failed> {
-    shared.channels.mute();
-    shared.own.mute();
-    let resent = turner.resend();
-    shared.own.unmute();
-    shared.channels.unmute();
-    resent?;
-    Ok(())
 }
 
 // Moves to the other side where the one in use is long, and longer than it was `begun`. Whether it was moved.

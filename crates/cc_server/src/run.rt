@@ -132,12 +132,7 @@ where
     R: Machine,
     F: Files<File = File>,
 {
-    let outlet = ServerOutlet {
-        rt: run.rt,
-        alloc: run.alloc,
-        shared: run.shared,
-        answers_to_all: run.config.answers_to_all,
-    };
+    let outlet = ServerOutlet::new(run.rt, run.alloc, run.shared, run.config.answers_to_all);
     let site = match FileSite::open(files, run.alloc, run.config.dir, outlet) {
         Ok(site) => site,
         Err(fault) => {

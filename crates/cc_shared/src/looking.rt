@@ -81,7 +81,7 @@ fn tell_peer<R: Wait>(rt: &R, alloc: Global, me: NodeId, channel: &PeerChannel, 
     };
     if let Ok(bytes) = skip_bytes(alloc, me, posts) {
         shared.gauges.send_skip();
-        channel.put(rt, Parcel::Post(bytes));
+        channel.put(rt, me, Parcel::Post(bytes));
     }
 }
 
@@ -91,7 +91,7 @@ fn pass_second<R: Wait>(rt: &R, core: &Core, shared: &Shared, seconds: u64) -> b
     for link in core.links().rows() {
         if link.peer != core.me() {
             let passed = pass_link(rt, core, shared, link);
-            note_passed(rt, shared, link, passed, seconds);
+            note_passed(rt, core.me(), shared, link, passed, seconds);
             is_back |= passed.is_back;
         }
     }
@@ -119,10 +119,17 @@ fn sent_to<R: Wait>(rt: &R, core: &Core, shared: &Shared, link: &LinkRow) -> u64
 
 // Has a peer hear a sign of life, tells the channel to it whether it is behind, and notes that it is taken for absent. A peer that
 // was heard once and is silent is behind: its connection may be one that waits long until it sends again.
-fn note_passed<R: Wait>(rt: &R, shared: &Shared, link: &LinkRow, passed: Passed, seconds: u64) {
+fn note_passed<R: Wait>(
+    rt: &R,
+    me: NodeId,
+    shared: &Shared,
+    link: &LinkRow,
+    passed: Passed,
+    seconds: u64,
+) {
     let peer = link.peer;
     if let Some(channel) = shared.channel_to(peer) {
-        channel.beat(rt, link.heard);
+        channel.beat(rt, me, link.heard);
         let is_lost = channel.last_heard().is_some() && shared.is_silent(rt, peer);
         channel.note_progress(passed.standing.is_late() || is_lost, seconds);
         if passed.is_taken {

@@ -17,16 +17,24 @@ use std::sync::Wait;
 /// Passes outputs on. What finds no room is lost.
 #[derive(Drop)]
 pub struct ServerOutlet<'a, R: Wait> {
-    pub rt: &'a R,
-    pub alloc: Global,
-    pub shared: &'a Shared,
-    /// Whether the answers to an operation go to all nodes, not to that alone which asked.
-    pub answers_to_all: bool,
+    rt: &'a R,
+    alloc: Global,
+    shared: &'a Shared,
+    answers_to_all: bool,
+    // Something was put for a peer since the channels were written last.
+    is_due: bool,
 }
 
-impl<R: Wait> ServerOutlet<'_, R> {
-    fn is_me(&self, node: NodeId) -> bool {
-        self.shared.me.get() == Some(&node)
+impl<'a, R: Wait> ServerOutlet<'a, R> {
+    /// Where all nodes get the answers to an operation, or that alone which asked.
+    pub fn new(rt: &'a R, alloc: Global, shared: &'a Shared, answers_to_all: bool) -> Self {
+        ServerOutlet {
+            rt,
+            alloc,
+            shared,
+            answers_to_all,
+            is_due: false,
+        }
     }
 
     // Hands an event to the worker of the node's own messages.
@@ -65,7 +73,7 @@ impl<R: Wait> ServerOutlet<'_, R> {
         }
     }
 
-    fn post(&self, channel: &PeerChannel, number: u64, message: &Message)
+    fn post(&self, me: NodeId, channel: &PeerChannel, number: u64, message: &Message)
         requires { 1 ≤ number }
     {
         if channel.is_muted() {
@@ -77,18 +85,17 @@ impl<R: Wait> ServerOutlet<'_, R> {
         if due.skip.is_some() {
             self.shared.gauges.send_skip();
         }
-        if let Some(bytes) = self.spelled(&due, number, message) {
-            channel.put(self.rt, Parcel::Post(bytes));
+        if let Some(bytes) = self.spelled(me, &due, number, message) {
+            channel.put(self.rt, me, Parcel::Post(bytes));
         }
     }
 
     // The bytes of what is due to a peer, if anything is.
-    fn spelled(&self, due: &Due, number: u64, message: &Message) -> Option<Vec<u8>> {
+    fn spelled(&self, me: NodeId, due: &Due, number: u64, message: &Message) -> Option<Vec<u8>> {
         if due.skip.is_none() && !due.has_post {
             return None;
         }
-        let me = self.shared.me.get()?;
-        due_bytes(self.alloc, *me, due, number, message).ok()
+        due_bytes(self.alloc, me, due, number, message).ok()
     }
 
     // The bytes of an answer as its client reads them.
@@ -96,32 +103,45 @@ impl<R: Wait> ServerOutlet<'_, R> {
         reply_bytes(self.alloc, session, request, answer).ok()
     }
 
-    fn acknowledge(&self, channel: &PeerChannel, number: u64) {
-        channel.put(self.rt, Parcel::Ack(number));
+    // Writes what was put for peers before a reply: they work while clients are told.
+    fn write_posts(&mut self) {
+        if let (true, Some(me)) = (self.is_due, self.shared.me.get()) {
+            self.shared.channels.write(self.rt, *me);
+        }
+        self.is_due = false;
     }
 }
 
 impl<R: Wait> Outlet for ServerOutlet<'_, R> {
     fn send(&mut self, to: NodeId, number: u64, message: &Message) {
+        let Some(me) = self.shared.me.get() else {
+            return;
+        };
         if number == 0 {
             return;
         }
-        if self.is_me(to) {
+        if to == *me {
             self.deliver(to, number, message);
         } else if let Some(channel) = self.shared.channel_to(to) {
-            self.post(channel, number, message);
+            self.post(*me, channel, number, message);
+            self.is_due = true;
         }
     }
 
     fn ack(&mut self, to: NodeId, number: u64) {
-        if self.is_me(to) {
+        let Some(me) = self.shared.me.get() else {
+            return;
+        };
+        if to == *me {
             self.hear(Event::Acked { peer: to, number });
         } else if let Some(channel) = self.shared.channel_to(to) {
-            self.acknowledge(channel, number);
+            channel.put(self.rt, *me, Parcel::Ack(number));
+            self.is_due = true;
         }
     }
 
     fn reply(&mut self, session: u64, request: u64, answer: &Answer) {
+        self.write_posts();
         match self.replied(session, request, answer) {
             Some(bytes) => self
                 .shared

@@ -36,4 +36,6 @@ mod sharing;
 #[cfg(test)]
 mod skipping;
 #[cfg(test)]
+mod slow_peer;
+#[cfg(test)]
 mod vectors;
