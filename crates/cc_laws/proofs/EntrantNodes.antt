@@ -40,20 +40,20 @@ entrant = record { me = 2; initial = []; contacts = 1 ∷ []; beta = half; gamma
 abbrev alone : NatSet
 alone = set.insert set.empty 1
 
-abbrev with_two : NatSet
+abbrev pub with_two : NatSet
 with_two = set.insert alone 2
 
-abbrev knows : NatSet → NatSet → ℕ → Churn
+abbrev pub knows : NatSet → NatSet → ℕ → Churn
 knows entered joined echoes = record { changes = record { entered = entered; joined = joined; left = set.empty }; echoes = echoes; need = echoes }
 
-abbrev link_of : ℕ → ℕ → Link
+abbrev pub link_of : ℕ → ℕ → Link
 link_of start heard = record { start = start; acked = 0; heard = heard }
 
-abbrev links_of : ℕ → Link → Links
+abbrev pub links_of : ℕ → Link → Links
 links_of heard second = table.insert (one 1 (link_of 0 heard)) 2 second
 
 -- who entered and joined, its links, its operations, its posts, the last requests and the answers that it keeps
-abbrev node_with : ℕ → Churn → Links → Ops → List Message → Requests → FinMap nat_cmp Answer → Node
+abbrev pub node_with : ℕ → Churn → Links → Ops → List Message → Requests → FinMap nat_cmp Answer → Node
 node_with me churn links ops posts sessions answers = record {
   core = record { me = me; beta = half; gamma = half; churn = churn; ops = ops; posts = length posts; links = links; sessions = sessions };
   outbox = record { last = length posts; posts = kept posts; answers = answers };
@@ -155,7 +155,7 @@ to_c7 = record { taken = simp tables refl; leads = simp tables refl; puts = simp
 abbrev told : Churn
 told = knows (set.insert (set.insert set.empty 2) 1) with_two 1
 
-abbrev joined : ℕ → Ops → List Message → Requests → FinMap nat_cmp Answer → Node
+abbrev pub joined : ℕ → Ops → List Message → Requests → FinMap nat_cmp Answer → Node
 joined heard ops posts sessions answers = node_with 2 told (links_of heard (link_of 0 0)) ops posts sessions answers
 
 abbrev querying : Ops

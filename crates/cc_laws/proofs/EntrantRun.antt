@@ -2,8 +2,7 @@
 --     start, mid, end       before the store, after its answer, and after that of the collect
 --     to_mid, to_end        from the one to the other, by these moves
 use Rattle.std.proofs.Common.{◌≡◌, ℕ, zero, suc, ◌+◌, ◌<◌, ◌≤◌, true, inl, inr, List, [], ◌∷◌, ◌++◌, length, refl, subst, sym, arith}
-use Rattle.std.specs.Prelude.{Option, Some, slice_index_or}
-use Rattle.std.specs.List.{Contains}
+use Rattle.std.specs.Prelude.{Some, slice_index_or}
 use Rattle.std.specs.FinMap as table
 use Rattle.cc_messages.specs.declared.answer.Answer.TheVariants as answer
 use Rattle.cc_messages.specs.declared.command.Command.TheVariants as command
@@ -16,7 +15,7 @@ use Rattle.cc_node.specs.Core.{asked_of}
 use Rattle.cc_node.specs.Node.{Node, after}
 use Rattle.cc_node.specs.Opening.{Opening, IsOpening, fresh}
 use Rattle.cc_laws.specs.Clusters.{Member, Cluster, Sent, Move, Accept, Receive}
-use Rattle.cc_laws.specs.Rounds.{Round, awaits_acks, awaits_views, ends_round, counts, with_peer, peers_along}
+use Rattle.cc_laws.specs.Rounds.{Round, awaits_acks, awaits_views, ends_round, counts, peers_along}
 use Rattle.cc_laws.specs.Runs.{IsFreshCluster}
 use Rattle.cc_laws.specs.Regular.{IsAnswered, IsStored, IsAhead, RoundOf, HasAsked, SharedRounds, ShareNode}
 use Rattle.cc_laws.proofs.Inserting.{tables}
@@ -24,6 +23,7 @@ use Rattle.cc_laws.proofs.TwoNodes.{both, view, stored, acked, queried, replied,
 use Rattle.cc_laws.proofs.EntrantNodes as nodes
 use Rattle.cc_laws.proofs.EntrantNodes.{first_opening, entrant, entering, echo, joining, join_echo, stored_back, acked_back}
 use Rattle.cc_laws.proofs.Turns.{lived, sent_by, turn}
+use Rattle.cc_laws.proofs.Hubs.{last_counted}
 use Rattle.cc_laws.proofs.Stages.{two, Stage, own_1, own_2, hear_1, hear_2, fresh_two}
 
 -- ---- the store: node 1 is alone
@@ -106,13 +106,13 @@ querying =
     let x6 = hear_1 x5 2 3 queried nodes.c6 (output.Ack 2 3 ∷ output.Send 1 5 replied ∷ output.Send 2 3 replied ∷ []) nodes.to_c6 (13, omega arith, refl) in
     hear_2 x6 1 2 join_echo nodes.d4 (output.Ack 1 2 ∷ []) nodes.to_d4 (17, omega arith, refl)
 
-abbrev es_end : List Event
+abbrev pub es_end : List Event
 es_end = es_query ++ event.Deliver 2 4 stored_back ∷ []
 
-abbrev fs_end : List Event
+abbrev pub fs_end : List Event
 fs_end = fs_query ++ event.Deliver 1 3 replied ∷ event.Deliver 1 4 acked_back ∷ []
 
-abbrev sent_end : List Sent
+abbrev pub sent_end : List Sent
 sent_end =
     sent_query
     ++ sent_by 2 (output.Ack 1 3 ∷ both 4 stored_back)
@@ -218,10 +218,6 @@ query_round = record {
   ends = subst (λ (n : Node). ends_round n.core (event.Deliver 1 3 replied) ≡ true) (sym querying.second) refl;
 }
 
--- it is among those that were counted, if its answer is the last one
-last_counted : (counted : Option ℕ) (q : ℕ) (peers : List ℕ) → Some q ≡ counted → Contains (with_peer counted peers) q
-last_counted counted q peers is = subst (λ (o : Option ℕ). Contains (with_peer o peers) q) is (0, omega arith, refl)
-
 pub shared_rounds : SharedRounds (lived first_opening es_mid) (lived entrant fs_end) 7 1 9 1
 unfolding store_round query_round
 shared_rounds = record {
@@ -254,3 +250,10 @@ later = lived entrant fs_end
 
 pub is_entrant : table.get end.members 2 ≡ Some later
 is_entrant = simp tables refl
+
+-- as it began
+abbrev pub began : Member
+began = lived entrant []
+
+pub is_entrant_at_start : table.get start.members 2 ≡ Some began
+is_entrant_at_start = simp tables refl

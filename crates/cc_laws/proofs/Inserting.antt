@@ -1,16 +1,16 @@
 -- Finite maps that were made by insertions: what they have, and the same map made in another way.
 --     get_empty, entries_insert, entries_empty, length_is     what is in a map
---     retain_insert, retain_empty, remove_empty     what is left of it
+--     retain_insert, retain_empty, remove_insert, remove_empty     what is left of it
 --     over_same, over_two, over_one        a key that is there is given another value
 --     tables                               all of these, to rewrite by
 use Rattle.std.proofs.Common.{◌≡◌, ℕ, Bool, true, false, cond, nat_eq, List, [], ◌∷◌, length, refl, sym, ap, ◌∙◌, arith}
 use Rattle.std.specs.Prelude.{Option, Some, None}
-use Rattle.std.specs.Cmp.{nat_cmp_total}
+use Rattle.std.specs.Cmp.{nat_cmp_total, unsigned_tied}
 use Rattle.std.specs.Ordering.{nat_cmp}
 use Rattle.std.specs.FinMap as table
 use Rattle.std.specs.FinMap.{FinMap, nat_cmp-IsAntisymmetric}
 use Rattle.std.specs.FinMap.Entries.{put}
-use Rattle.std.proofs.lemmas.Bool.{eqb-true}
+use Rattle.std.proofs.lemmas.Bool.{eqb-true, eqb-false}
 use Rattle.cc_views.specs.NatSets.{get-insert_key}
 
 pub get_empty : {X : Type 0} (q : ℕ) → table.get (table.empty {X = X} {R = nat_cmp}) q ≡ None
@@ -108,4 +108,32 @@ empty_either false o is = is
 pub remove_empty : {X : Type 0} (k : ℕ) → table.remove (table.empty {X = X} {R = nat_cmp}) k ≡ table.empty
 remove_empty k = same _ _ (λ q. table.get-remove nat_cmp_total table.empty k q ∙ empty_either _ _ (get_empty q) ∙ sym (get_empty q))
 
-pub ruleset tables = (get-insert_key, get_empty, entries_insert, entries_empty, length_is, retain_insert, retain_empty, remove_empty, over_same, over_two, over_one)
+removed : {X : Type 0} (m : FinMap nat_cmp X) (k q : ℕ) → table.get (table.remove m k) q ≡ cond (nat_eq q k) None (table.get m q)
+removed m k q = table.get-remove nat_cmp_total m k q ∙ ap (λ b. cond b None (table.get m q)) (unsigned_tied q k)
+
+-- key k was given v, and key j is removed: what is at key q
+left_at : {X : Type 0} (j k q : ℕ) (v : X) (o : Option X) (a b c : Bool) → nat_eq k j ≡ a → nat_eq q j ≡ b → nat_eq q k ≡ c
+    → cond b None (cond c (Some v) o) ≡ cond a (cond b None o) (cond c (Some v) (cond b None o))
+left_at j k q v o true true c at is is' = refl
+left_at j k q v o true false true at is is' = absurd (eqb-false q j is (eqb-true q k is' ∙ eqb-true k j at))
+left_at j k q v o true false false at is is' = refl
+left_at j k q v o false true true at is is' = absurd (eqb-false k j at (sym (eqb-true q k is') ∙ eqb-true q j is))
+left_at j k q v o false true false at is is' = refl
+left_at j k q v o false false c at is is' = refl
+
+remove_by : {X : Type 0} (m : FinMap nat_cmp X) (k : ℕ) (v : X) (j : ℕ) (b : Bool) → nat_eq k j ≡ b
+    → table.remove (table.insert m k v) j ≡ cond b (table.remove m j) (table.insert (table.remove m j) k v)
+remove_by m k v j b is = same _ _ (λ q.
+    removed (table.insert m k v) j q ∙ ap (cond (nat_eq q j) None) (get-insert_key m k v q)
+    ∙ left_at j k q v (table.get m q) b (nat_eq q j) (nat_eq q k) is refl refl ∙ sym (back b q))
+  where
+    back : (c : Bool) (q : ℕ) → table.get (cond c (table.remove m j) (table.insert (table.remove m j) k v)) q
+        ≡ cond c (cond (nat_eq q j) None (table.get m q)) (cond (nat_eq q k) (Some v) (cond (nat_eq q j) None (table.get m q)))
+    back true q = removed m j q
+    back false q = get-insert_key (table.remove m j) k v q ∙ ap (cond (nat_eq q k) (Some v)) (removed m j q)
+
+pub remove_insert : {X : Type 0} (m : FinMap nat_cmp X) (k : ℕ) (v : X) (j : ℕ)
+    → table.remove (table.insert m k v) j ≡ cond (nat_eq k j) (table.remove m j) (table.insert (table.remove m j) k v)
+remove_insert m k v j = remove_by m k v j (nat_eq k j) refl
+
+pub ruleset tables = (get-insert_key, get_empty, entries_insert, entries_empty, length_is, retain_insert, retain_empty, remove_insert, remove_empty, over_same, over_two, over_one)

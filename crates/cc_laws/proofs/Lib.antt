@@ -32,6 +32,7 @@ mod OneRound
 mod Regularity
 mod DoubleCollecting
 mod Linearizing
+mod Snapshots
 mod Counting
 mod Staying
 mod Steady
@@ -44,6 +45,12 @@ mod Inserting
 mod TwoNodes
 mod Turns
 mod Stages
+mod TwoTurns
+mod Hubs
 mod WorkedRun
 mod EntrantNodes
 mod EntrantRun
+mod SnapshotNodes
+mod SnapshotRun
+mod SharingNodes
+mod SharingRun

@@ -1,6 +1,7 @@
 -- Each collect sees the stores that ended before it began, and none goes back.
 --     Course                  what goes on from fresh nodes up to a middle, and from there to an end
 --     RoundsShare, one_shares, each_shares     each two rounds of two requests counted one node: where one of each did, where all meet
+--     collects_share, store_shares    two rounds that did, of two collects and of a store and a collect, where all meet
 --     seen_later              what a round stored that ended by then, a read that began later has seen
 --     stores_seen, reads_in_turn    so of stores, and of two collects
 use Rattle.std.proofs.Common.{◌≡◌, ◌⊎◌, ℕ, ◌<◌, ◌≤◌, true, false, List, [], ◌∷◌, ◌++◌, refl, sym, ap, subst, ◌∙◌, inl, inr, arith}
@@ -231,6 +232,60 @@ module _ (run : Course) where
       subst (λ (o : Opening). (round : Round (fresh o) (released_events w))
       → (k : ℕ) × Contains (peers_of (fresh o) (released_events w) round) k × Counted n read k) grows.opening
       (λ round. meet q p w n grew.1 at' round read) later
+
+  shared_by : RoundsMeet d → (q s r p x y : ℕ) (m : Member) → IsAt mid q m → (first : RoundOf m) → awaits_acks (phase_in m first) ≡ true
+      → IsRoundFor m first s r → (b : Answer) → Reading d p x y b → ShareNode mid d q s r p x y
+  shared_by meet q s r p x y m at first storing of_first b late =
+      let read = read_round_of p x y b late in
+      let both = each_shares meet q s r p x y m late.member at late.there first storing of_first read.round read.querying read.asked in
+      record {
+        earlier = m;
+        later = late.member;
+        is_earlier = at;
+        is_later = late.there;
+        rounds = record {
+          first = first;
+          stored = storing;
+          of_first = of_first;
+          second = read.round;
+          queried = read.querying;
+          of_second = read.asked;
+          peer = both.0;
+          in_first = both.1;
+          in_second = both.2;
+        };
+      }
+
+  -- so of what was answered by then, and of what was answered in the end
+  reads_share : RoundsMeet d → (q s r : ℕ) (a : Answer) → Reading mid q s r a → (p x y : ℕ) (b : Answer) → Reading d p x y b → ShareNode mid d q s r p x y
+  reads_share meet q s r a early p x y b late =
+      let op = early.op in
+      let back = back_round q early.member (h_mid.sound q early.member early.there) op.place s r early.pending early.seen early.asked early.phase op.ends in
+      shared_by meet q s r p x y early.member early.there back.round back.storing back.asked b late
+
+  pub collects_share : RoundsMeet d → (q s r : ℕ) (v : ViewMap) → IsAnswered mid q s r (answer.Seen v) → (p x y : ℕ) (w : ViewMap)
+      → IsAnswered d p x y (answer.Seen w) → ShareNode mid d q s r p x y
+  collects_share meet q s r v first_has p x y w second_has =
+      reads_share meet q s r (answer.Seen v) (reading_mid q s r (answer.Seen v) first_has (λ is. cc)) p x y (answer.Seen w)
+      (reading_end p x y (answer.Seen w) second_has (λ is. cc))
+
+  pub store_shares : RoundsMeet d → (q s r k : ℕ) → IsStored mid q k s r → (p x y : ℕ) (w : ViewMap) → IsAnswered d p x y (answer.Seen w)
+      → ShareNode mid d q s r p x y
+  store_shares meet q s r k stored p x y w has =
+      let made : MadeBy mid q (output.Reply s r answer.Stored) = all_at (WasMade mid) mid.sent _ t_mid.sent stored.3 in
+      let m = made.0 in
+      let sound = h_mid.sound q m made.1 in
+      let op = ended m s r answer.Stored made.2 in
+      let b = (after (fresh m.opening) op.before).core in
+      let lawful = (node_lawful q m sound op.place).core in
+      elim (either_op b s r answer.Stored b.ops.phase refl op.tells) as (λ _. ShareNode mid d q s r p x y) [
+        | inl o ↦
+            let asked : HasAsked (pending_asks b.ops) s r = (o.1, op_pends b o.0 (Storing o.0) o.1 o.2 refl o.3, o.4, o.5) in
+            let stored_round = write_round q m sound op.place s r o.0 asked o.2 op.ends in
+            shared_by meet q s r p x y m made.1 stored_round.round stored_round.storing stored_round.asked (answer.Seen w)
+            (reading_end p x y (answer.Seen w) has (λ is. cc))
+        | inr o ↦ absurd (reads_view o.1.command o.2 (op_reads b lawful o.0 o.2 o.1 o.3 o.4) o.7)
+      ]
 
   -- where members stay the same, they meet
   to_end : Run c (first ++ second) d

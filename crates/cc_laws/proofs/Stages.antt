@@ -110,7 +110,7 @@ module _ {o p : Opening} {from : Cluster} {ms : List (ℕ × Move)} {es fs : Lis
     second = stage.second;
   }
 
--- ---- how both begin
+-- ---- who is there, and how both begin
 
 either_member : (x y m : Member) (q : ℕ) (a b : Bool) → nat_eq q 1 ≡ a → nat_eq q 2 ≡ b → cond a (Some y) (cond b (Some x) None) ≡ Some m
     → ((q ≡ 1) × (y ≡ m)) ⊎ ((q ≡ 2) × (x ≡ m))
@@ -119,16 +119,21 @@ either_member x y m q false true at other is = inr (eqb-true q 2 other, same_Som
 either_member x y m q false false at other is = absurd (none-some m is)
 
 -- one of the two
-which : (o p : Opening) (q : ℕ) (m : Member) → IsAt (two o p [] [] []) q m → ((q ≡ 1) × (lived o [] ≡ m)) ⊎ ((q ≡ 2) × (lived p [] ≡ m))
-which o p q m is = either_member (lived p []) (lived o []) m q (nat_eq q 1) (nat_eq q 2) refl refl (simp tables at is)
+which : (o p : Opening) (es fs : List Event) (sent : List Sent) (q : ℕ) (m : Member) → IsAt (two o p es fs sent) q m
+    → ((q ≡ 1) × (lived o es ≡ m)) ⊎ ((q ≡ 2) × (lived p fs ≡ m))
+which o p es fs sent q m is = either_member (lived p fs) (lived o es) m q (nat_eq q 1) (nat_eq q 2) refl refl (simp tables at is)
 
 -- what holds of both, each under its id
-pub both_hold : (o p : Opening) (P : ℕ → Member → Type 0) → P 1 (lived o []) → P 2 (lived p []) → (q : ℕ) (m : Member) → IsAt (two o p [] [] []) q m → P q m
-both_hold o p P first second q m is =
-    elim (which o p q m is) as (λ _. P q m) [
+pub each_holds : (o p : Opening) (es fs : List Event) (sent : List Sent) (P : ℕ → Member → Type 0) → P 1 (lived o es) → P 2 (lived p fs)
+    → (q : ℕ) (m : Member) → IsAt (two o p es fs sent) q m → P q m
+each_holds o p es fs sent P first second q m is =
+    elim (which o p es fs sent q m is) as (λ _. P q m) [
       | inl h ↦ subst (λ (k : ℕ). P k m) (sym h.0) (subst (P 1) h.1 first)
       | inr h ↦ subst (λ (k : ℕ). P k m) (sym h.0) (subst (P 2) h.1 second)
     ]
+
+pub both_hold : (o p : Opening) (P : ℕ → Member → Type 0) → P 1 (lived o []) → P 2 (lived p []) → (q : ℕ) (m : Member) → IsAt (two o p [] [] []) q m → P q m
+both_hold o p P first second = each_holds o p [] [] [] P first second
 
 begins : (me : ℕ) (o : Opening) → o.me ≡ me → IsOpening o → IsFreshMember me (lived o [])
 begins me o named opens = record { opening = opens; me = named; events = refl; released = refl; durable = refl }

@@ -47,7 +47,7 @@ four_fifths = record { num = 4; den = 5 }
 abbrev pub opening_of : ℕ → Opening
 opening_of me = record { me = me; initial = 1 ∷ 2 ∷ []; contacts = []; beta = four_fifths; gamma = four_fifths; share = 32 }
 
-abbrev link_of : ℕ → Link
+abbrev pub link_of : ℕ → Link
 link_of heard = record { start = 0; acked = 0; heard = heard }
 
 -- where the first three posts lapsed
@@ -63,7 +63,7 @@ abbrev members : ChangeSets
 members = record { entered = set.from_list (1 ∷ 2 ∷ []); joined = set.from_list (1 ∷ 2 ∷ []); left = set.empty }
 
 -- its links to both, its operations, its posts, the last requests and the answers that it keeps
-abbrev node_with : ℕ → Link → Link → Ops → List Message → Requests → FinMap nat_cmp Answer → Node
+abbrev pub node_with : ℕ → Link → Link → Ops → List Message → Requests → FinMap nat_cmp Answer → Node
 node_with me first second ops posts sessions answers = record {
   core = record {
     me = me;

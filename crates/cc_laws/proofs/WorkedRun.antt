@@ -152,30 +152,27 @@ to_end =
     hear_2 x19 1 6 acked_back nodes.b13 (output.Ack 1 6 ∷ both 8 queried_next ++ output.Reply 9 1 (answer.Seen view) ∷ []) nodes.to_b13 (40, omega arith, refl)
 
 -- whether nobody enters, leaves or is retired with a move
-calm : Move → Bool
+abbrev pub calm : Move → Bool
 calm (Accept event.Enter) = false
 calm (Accept event.Leave) = false
 calm (Accept (event.Retire q)) = false
 calm _ = true
 
 calm_stays : (move : Move) → calm move ≡ true → Stays move
-unfolding calm
 calm_stays (Accept event.Enter) is = cc
 calm_stays (Accept event.Leave) is = cc
 calm_stays (Accept (event.Retire q)) is = cc
 calm_stays _ is = tt
 
-all_stay : (moves : List (ℕ × Move)) → list_all (λ (move : ℕ × Move). calm move.1) moves ≡ true
+pub all_stay : (moves : List (ℕ × Move)) → list_all (λ (move : ℕ × Move). calm move.1) moves ≡ true
     → AllByRecursion (λ (move : ℕ × Move). Stays move.1) moves
 all_stay [] all = tt
 all_stay (move ∷ moves) all = let parts = and_parts (calm move.1) _ all in (calm_stays move.1 parts.0, all_stay moves parts.1)
 
 pub first_stay : AllByRecursion (λ (move : ℕ × Move). Stays move.1) first_moves
-unfolding calm
 first_stay = all_stay first_moves refl
 
 pub second_stay : AllByRecursion (λ (move : ℕ × Move). Stays move.1) second_moves
-unfolding calm
 second_stay = all_stay second_moves refl
 
 -- ---- the premises
@@ -193,7 +190,7 @@ ascends (suc k) below = absurd (omega (arith, below))
 nothing_below : (me k : ℕ) → k < 0 → ⊥
 nothing_below me k below = omega (arith, below)
 
-opens : (me : ℕ) → 1 ≤ me → Contains (1 ∷ 2 ∷ []) me → set.len (set.from_list (me ∷ 1 ∷ 2 ∷ [])) ≤ 256 → IsOpening (opening_of me)
+pub opens : (me : ℕ) → 1 ≤ me → Contains (1 ∷ 2 ∷ []) me → set.len (set.from_list (me ∷ 1 ∷ 2 ∷ [])) ≤ 256 → IsOpening (opening_of me)
 opens me some among few = record {
   no_zero = λ c. no_zero me c.0 some c.1 c.2;
   initial_ascends = ascends;

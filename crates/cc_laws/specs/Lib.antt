@@ -12,3 +12,4 @@ pub mod Regular
 pub mod Fixed
 pub mod ReadBack
 pub mod DoubleCollects
+pub mod Snapshots

@@ -1,13 +1,18 @@
 //! The laws of double collects: readings that show the whole cluster at one moment.
 
-ghost use Rattle.std.specs.Prelude.{◌≡◌, ◌⊎◌, ◌≤◌, ℕ, true, List};
+ghost use Rattle.std.specs.Prelude.{◌≡◌, ◌⊎◌, ◌≤◌, ℕ, true, false, List, [], ◌∷◌, Some};
+ghost use Rattle.std.specs.List.{AllByRecursion};
+ghost use Rattle.std.specs.FinMap as table;
 ghost use Rattle.cc_views.specs.NatSets as set;
-ghost use Rattle.cc_laws.specs.Clusters.{Cluster, Move};
+ghost use Rattle.cc_views.specs.Rows.{rows_of};
+ghost use Rattle.cc_laws.specs.Clusters.{Member, Cluster, Move};
 ghost use Rattle.cc_laws.specs.Runs.{Run, IsFreshCluster};
 ghost use Rattle.cc_laws.specs.Orders.{IsFollowedBy};
 ghost use Rattle.cc_laws.specs.Regular.{IsAnswered, IsStored, IsAhead, HasAtLeast, SeesWrite, RoundsMeet, ShareNode};
 ghost use Rattle.cc_laws.specs.ReadBack.{IsDone};
+ghost use Rattle.cc_laws.specs.Fixed.{IsFixedCluster, Stays};
 ghost use Rattle.cc_laws.specs.DoubleCollects.{Moment, DoubleCollect, LacksWrite, AreInOrder, IsBelow, Operation, IsLinearization};
+ghost use Rattle.cc_laws.specs.Snapshots.{HasShare, IsOfSession, AreOfOneRound, row_of_write, WriteBetween};
 ghost use Rattle.cc_messages.specs.declared.answer.Answer.TheVariants as answer;
 ghost use Rattle.cc_messages.specs.declared.command.Command.TheVariants as command;
 ghost use Rattle.cc_objects.specs.Objects.{max_of, flag_of, set_of};
@@ -68,4 +73,33 @@ pub fn shared_nodes_tell_double_collects()
     ensures stored { (c d : Cluster) (moves : List (ℕ × Move)) → IsFreshCluster c → Run c moves d → (a : DoubleCollect c moves d)
         (moment : Moment c moves) (q n s r : ℕ) → IsStored moment.now q n s r → IsAhead moment.now a.node a.x a.y
         → ShareNode moment.now d q s r a.node a.x a.y → SeesWrite d a.view q n }
+{}
+
+/// The premises of these laws can be met at a share of 1, where one ask begins at a time. Two nodes stay the only members, and each needs
+/// the answers of both. Node 1 adds 3 to its set and is answered; session 9 of node 2 collects twice (`a`), session 8 there sets the
+/// flag, and session 10 collects twice behind it (`b`). The first view has the 3 and no flag, and is within the second one, which has
+/// both; and all of it has an order: the 3, `a`, the flag, `b`.
+pub fn two_nodes_take_snapshots()
+    ensures { (c d : Cluster) × (moves : List (ℕ × Move)) × (a b : DoubleCollect c moves d) × IsFreshCluster c × Run c moves d × HasShare 1 c
+        × IsFixedCluster (1 ∷ 2 ∷ []) c × AllByRecursion (λ move. Stays move.1) moves × RoundsMeet d
+        × IsOfSession a 2 9 × IsOfSession b 2 10 × WriteBetween c moves d a b 2 1 8 1
+        × IsDone a.moment.now 1 7 1 (command.AddMember 3) × IsDone b.moment.now 2 8 1 command.SetFlag
+        × (rows_of a.view ≡ row_of_write 1 (command.AddMember 3) ∷ [])
+        × (rows_of b.view ≡ row_of_write 1 (command.AddMember 3) ∷ row_of_write 2 command.SetFlag ∷ [])
+        × (set.contains (set_of a.view) 3 ≡ true) × (flag_of a.view ≡ false)
+        × (set.contains (set_of b.view) 3 ≡ true) × (flag_of b.view ≡ true) }
+{}
+
+/// And at a share of 32, where a node enters. Node 1 stores, and node 2 was formatted without members. Session 9 of node 2 collects twice
+/// (`a`), session 8 there writes the maximum 5, and sessions 9 and 10 collect twice behind it (`b`, `e`), the second time in one round:
+/// both read one view, which has what was stored and the 5. The view of `a` lacks the 5, and is within that one.
+pub fn clients_of_a_round_take_snapshots()
+    ensures { (c d : Cluster) × (moves : List (ℕ × Move)) × (a b e : DoubleCollect c moves d) × (entrant : Member) × IsFreshCluster c × Run c moves d
+        × HasShare 32 c × (table.get c.members 2 ≡ Some entrant) × (entrant.opening.initial ≡ []) × RoundsMeet d
+        × IsOfSession a 2 9 × IsOfSession b 2 9 × IsOfSession e 2 10 × AreOfOneRound d 2 b.x b.y e.x e.y
+        × WriteBetween c moves d a b 2 1 8 1 × WriteBetween c moves d a e 2 1 8 1
+        × IsDone b.moment.now 2 8 1 (command.WriteMax 5)
+        × (rows_of a.view ≡ row_of_write 1 (command.Store (0x61 ∷ [])) ∷ [])
+        × (rows_of b.view ≡ row_of_write 1 (command.Store (0x61 ∷ [])) ∷ row_of_write 2 (command.WriteMax 5) ∷ []) × (e.view ≡ b.view)
+        × (max_of a.view ≡ 0) × (5 ≤ max_of b.view) }
 {}

@@ -12,7 +12,8 @@ mod rounds;
 
 pub use clusters::cluster_agrees;
 pub use double_collects::{
-    equal_collects_are_a_snapshot, readings_of_double_collects, shared_nodes_tell_double_collects,
+    clients_of_a_round_take_snapshots, equal_collects_are_a_snapshot, readings_of_double_collects,
+    shared_nodes_tell_double_collects, two_nodes_take_snapshots,
 };
 pub use histories::{one_line, outputs_have_events, views_follow};
 pub use lives::{
