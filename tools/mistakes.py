@@ -28,7 +28,7 @@ def of_words(address):
     run = ["run", "node-1", "--listen", address]
     ask = ["ask", address, "7"]
     return [
-        (["ask", "localhost:7001", "7", "collect"], "ADDR isn't an address and a port, such as 127.0.0.1:7001"),
+        (["ask", "127.0.0.256:7001", "7", "collect"], "ADDR isn't an address and a port, such as 127.0.0.1:7001"),
         (["ask", address, "seven", "collect"], "SESSION isn't a number, such as 7"),
         ([*ask, "stor", "a"], "stor is no command; did you mean store?"),
         ([*ask, "store", LONG], "store takes 1 to 64 bytes; this has 65"),
@@ -42,6 +42,7 @@ def of_words(address):
         ([*ask, "collect", "--request", "0"], "--request isn't a number from 1 on, such as 12"),
         ([*ask, "collect", "--timeout", "soon"], "--timeout isn't a number of seconds, such as 10"),
         ([*ask, "collect", "--status", "here"], "--status isn't an address and a port, such as 127.0.0.1:8001"),
+        (["share", address, "33"], "N isn't a number from 1 to 32, such as 8"),
         (["retire", address, "0"], "ID isn't the id of a node, such as 3"),
         (["retire", address], "retire takes ADDRS and ID, or --peers-file FILE and ID"),
         (["retire", address, "2", "--peers-file", "peers"], "retire takes ADDRS and ID, or --peers-file FILE and ID"),

@@ -18,11 +18,11 @@ from nodes import HERE, LOOPBACK, Cluster, Session, Verdicts, client, end_on_sig
 
 PAGE = HERE.parent / "docs" / "FORMATS.md"
 # A frame of the page: its kind's name, and its bytes, which may go on in a second line.
-FRAME = re.compile(r"^    (Ask|Reply|Refused|Retire) +([0-9A-F ]+)(?:\n {13}([0-9A-F ]+))?$", re.M)
+FRAME = re.compile(r"^    (Ask|Reply|Refused|Retire|Share) +([0-9A-F ]+)(?:\n {13}([0-9A-F ]+))?$", re.M)
 NOTHING, CLOSED = "nothing", "it is closed"
 # The session of the page's frames, and its last request before they begin: two stores, and readings.
 SESSION, LAST, STORES = 7, 41, 2
-STALE, SKIP, BUSY, LEFT, NOT_JOINED, TOO_MANY = 11, 12, 13, 1, 4, 9
+STALE, SKIP, BUSY, LEFT, NOT_JOINED, TOO_MANY, NOTHING_TO_ACK = 11, 12, 13, 1, 4, 9, 7
 MOST_SESSIONS = 256
 
 
@@ -110,6 +110,9 @@ def say_page(verdicts, cluster, talk):
     operator = Talk(verdicts, cluster.ports[1])
     operator.expect_nothing("a node is retired", retires[0])
     operator.expect("once more", retires[1], f"refused {LEFT} 0")
+    shares = [sent for name, sent in frames if name == "Share"]
+    operator.expect_nothing("a node is told its share", shares[0])
+    operator.expect("once more", shares[1], f"refused {NOTHING_TO_ACK} 0")
 
 
 def number_requests(talk, last):
@@ -131,6 +134,8 @@ def close_connections(verdicts, cluster):
         ("a length of 0", bytes(4)),
         ("a length above 65,536", bytes.fromhex("00010001")),
         ("a byte too many", nodes.framed(b"\x06\x00")),
+        ("a share of 0", nodes.framed(b"\x25\x00")),
+        ("a share of 33", nodes.framed(b"\x25\x21")),
         ("a text of 65 bytes", bare_ask(SESSION, 1, "0141" + "78" * 65)),
         ("a Reply", frames["Reply"]),
         ("a Refused", frames["Refused"]),

@@ -17,7 +17,7 @@ _ccnode_options() {
         load) echo '--clients --seconds --collects --sessions-from --json --help' ;;
         dump) echo '--node --help' ;;
         retire) echo '--peers-file --alive --help' ;;
-        leave | play) echo '--help' ;;
+        leave | share | play) echo '--help' ;;
         '') echo '--help --version' ;;
     esac
 }
@@ -50,7 +50,7 @@ _ccnode() {
     if [[ $word == -* ]]; then
         mapfile -t COMPREPLY < <(compgen -W "$(_ccnode_options "$subcommand")" -- "$word")
     elif [[ -z $subcommand ]]; then
-        mapfile -t COMPREPLY < <(compgen -W 'play format run ask status load leave retire dump' -- "$word")
+        mapfile -t COMPREPLY < <(compgen -W 'play format run ask status load leave retire share dump' -- "$word")
     else
         mapfile -t COMPREPLY < <(_ccnode_places "$subcommand" "$places" "$word")
     fi

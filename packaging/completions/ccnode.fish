@@ -1,5 +1,5 @@
 # Completion of ccnode for fish: subcommands, their options, the commands of `ask`, and folders.
-set -l subcommands play format run ask status load leave retire dump
+set -l subcommands play format run ask status load leave retire share dump
 set -l commands store collect snapshot max readmax flag readflag add readset
 
 complete -c ccnode -f
@@ -13,6 +13,7 @@ complete -c ccnode -n "not __fish_seen_subcommand_from $subcommands" -a status -
 complete -c ccnode -n "not __fish_seen_subcommand_from $subcommands" -a load -d 'Measure how quickly nodes answer'
 complete -c ccnode -n "not __fish_seen_subcommand_from $subcommands" -a leave -d 'Have a node leave for good'
 complete -c ccnode -n "not __fish_seen_subcommand_from $subcommands" -a retire -d 'Tell nodes that another is dead'
+complete -c ccnode -n "not __fish_seen_subcommand_from $subcommands" -a share -d 'Tell a node how many asks begin together'
 complete -c ccnode -n "not __fish_seen_subcommand_from $subcommands" -a dump -d 'Tell what stands in a folder'
 
 complete -c ccnode -n '__fish_seen_subcommand_from format run dump' -a '(__fish_complete_directories)'

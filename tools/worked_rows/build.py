@@ -17,7 +17,7 @@ TYPES = """cc_views/value cc_views/row cc_changes/fraction cc_messages/command c
 SPECS = """cc_views: NatSets Rows Merge Limits Tables
     cc_changes: ChangeSets ChangeLaws Need
     cc_objects: Objects
-    cc_messages: Limits Messages Ranges Refusals
+    cc_messages: Limits Messages Ranges Refusals Shares
     cc_wire: Reading Spelling Messages Answers Commands Events
     cc_links: Links
     cc_sessions: Sessions

@@ -21,7 +21,7 @@ A LIST is numbers joined by commas, ascending. A member is in its own initial li
 A node without one enters later, and needs all living members as contacts: enough
 that a fraction --gamma of those present, itself among them, answers it. --beta and
 --gamma are those of the cluster: the same at every node. --share is the node's own,
-for its life: 32 is for one that many clients ask at once.
+and `share` changes it: 32 is for one that many clients ask at once.
 
 Prints `formatted ID`, or why the folder isn't formatted: BadOpening (no node begins
 so: a list that doesn't ascend, a fraction above 1, a --share of 0 or above 32, a
@@ -55,12 +55,16 @@ or else: what was answered is on the disk, and the next run goes on from there.
 A peer that isn't named gets nothing from this node. Whoever can reach ADDR may ask,
 tell the node to leave, or send it messages: keep it in a network that you trust.
 What comes to the ADDR of --listen-clients may ask, and nothing else; whoever brings
-anything else there is hung up on. With --operators off the node leaves, and retires
-others, for whoever asks on its own machine alone.
+anything else there is hung up on. With --operators off the node leaves, retires others
+and changes its share for whoever asks on its own machine alone.
 
 An answer to an operation goes to the node that asked, and the others are told that
 they need not wait for it. A program from before that knows no such telling: beside one
 all nodes run with --answers all.
+
+An ADDR is an IPv4 address, an IPv6 address in brackets or the name of a machine, with a
+port: 127.0.0.1:7001, [::1]:7001, node-1.example:7001. A name is looked up at each
+connection.
 
 A FILE of peers has a line ID=ADDR for each node. Blank lines and those that begin
 with # say nothing, and the node's own line is passed over: one file serves all.
@@ -123,6 +127,15 @@ Prints `retired 3`, also where it was retired before or has left; `refused` and 
 several nodes are told it prints a line for each, which begins with its address. A node
 that was heard within three seconds is retired with --alive alone. Statuses: 0 where
 all took it, else 1, 2 after a command line that it doesn't take.";
+
+const SHARE_HELP: &str = "\
+Example: ccnode share 127.0.0.1:7001 8
+
+From the next round on up to N asks of one kind begin together; the round that is under
+way goes on as it is. The node keeps the number in its folder. Prints `share 8`, also
+where it was 8 before; `refused` and why, as `refused 13 Busy` where more than N asks
+are under way; or `no answer`. Statuses: 0 where it is N now, 1 where it isn't, 2 after
+a command line that it doesn't take.";
 
 const STATUS_HELP: &str = "\
 Example: ccnode status 127.0.0.1:8001
@@ -230,11 +243,7 @@ const RUN: Subcommand = Subcommand {
     about: "Runs a node over TCP",
     words: &[
         FOLDER,
-        Word::NeededOption(
-            "listen",
-            "ADDR",
-            "Where it listens: an IPv4 address and a port",
-        ),
+        Word::NeededOption("listen", "ADDR", "Where it listens: an address and a port"),
         Word::Option(
             "listen-clients",
             "ADDR",
@@ -243,7 +252,7 @@ const RUN: Subcommand = Subcommand {
         Word::Option(
             "operators",
             "on|off",
-            "Whether `leave` and `retire` are taken from other machines [default: on]",
+            "Whether `leave`, `retire` and `share` are taken from other machines [default: on]",
         ),
         Word::Option(
             "answers",
@@ -337,6 +346,19 @@ const RETIRE: Subcommand = Subcommand {
     help: RETIRE_HELP,
 };
 
+const SHARE: Subcommand = Subcommand {
+    name: "share",
+    about: "Tells a node how many asks begin together",
+    words: &[
+        ADDRESS,
+        Word::Needed(
+            "N",
+            "How many asks of one kind begin together at most, 1 to 32",
+        ),
+    ],
+    help: SHARE_HELP,
+};
+
 const DUMP: Subcommand = Subcommand {
     name: "dump",
     about: "Tells what stands in a node's folder",
@@ -393,7 +415,7 @@ const LOAD: Subcommand = Subcommand {
 // All subcommands, in the order of the help. The prover takes a table as one term, so they stand in three.
 const FIRST: [Subcommand; 3] = [PLAY, FORMAT, RUN];
 
-const AT_NODES: [Subcommand; 3] = [ASK, LEAVE, RETIRE];
+const AT_NODES: [Subcommand; 4] = [ASK, LEAVE, RETIRE, SHARE];
 
 const LAST: [Subcommand; 3] = [STATUS, LOAD, DUMP];
 

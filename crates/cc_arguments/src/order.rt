@@ -28,6 +28,11 @@ pub enum Order<'a> {
     },
     /// Tell nodes that another is dead.
     Retire(RetireWords<'a>),
+    /// Tell a node how many asks begin together.
+    Share {
+        address: &'a str,
+        share: &'a str,
+    },
     /// Print what a node tells of itself.
     Status {
         address: &'a str,
@@ -93,6 +98,10 @@ fn order_at_node<'a>(name: &str, words: &ArgMatches<'a>) -> Option<Order<'a>> {
             address: required(words, "ADDR"),
         }),
         "retire" => Some(Order::Retire(retire_words(words))),
+        "share" => Some(Order::Share {
+            address: required(words, "ADDR"),
+            share: required(words, "N"),
+        }),
         "status" => Some(Order::Status {
             address: required(words, "ADDR"),
             form: answer_form(words),

@@ -5,13 +5,13 @@ ghost use Rattle.std.specs.Prelude.{◌≤◌};
 use crate::flags::Flag;
 use crate::offer::offer;
 use crate::peer_socket::PeerSocket;
-use cc_frames::Peer;
+use cc_addresses::{Address, Peer};
 use cc_messages::PostRange;
 use cc_protocol::{Due, Parcel, Withheld};
 use cc_views::NodeId;
 use crossbeam_channel::{Receiver, Sender, bounded};
 use std::alloc::{AllocError, Global};
-use std::net::{SocketAddr, TcpStream};
+use std::net::{IpAddr, TcpStream};
 use std::sync::atomic::{AtomicU64, Ordering};
 use std::sync::{Arc, Mutex, Wait};
 
@@ -42,11 +42,19 @@ pub struct PeerChannel {
     absent_since: AtomicU64,
 }
 
+// Where a peer listens.
+#[derive(Clone, Copy)]
+struct Place {
+    address: Address,
+    // The IP that its name led to when it was last connected to. None where it wasn't, or has no name.
+    found: Option<IpAddr>,
+}
+
 /// How the connection to a peer stands, and where the peer listens.
 #[derive(Drop)]
 pub struct Way {
     socket: Mutex<PeerSocket>,
-    address: Mutex<SocketAddr>,
+    place: Mutex<Place>,
     // The peer is to be connected to anew.
     is_stale: Flag,
     // The peer was connected to, and was sent nothing again since.
@@ -57,10 +65,14 @@ pub struct Way {
 
 impl Way {
     // To a peer that listens there, which isn't connected to yet.
-    fn new(alloc: Global, address: SocketAddr) -> Self {
+    fn new(alloc: Global, address: Address) -> Self {
+        let place = Place {
+            address,
+            found: None,
+        };
         Way {
             socket: Mutex::new(PeerSocket::new(alloc)),
-            address: Mutex::new(address),
+            place: Mutex::new(place),
             is_stale: Flag::new(),
             is_new: Flag::new(),
             connected_since: AtomicU64::new(0),
@@ -68,21 +80,46 @@ impl Way {
     }
 
     /// Where the peer listens.
-    pub fn address<R: Wait>(&self, rt: &R) -> SocketAddr {
-        let address = self.address.lock(rt);
-        *address
+    pub fn address<R: Wait>(&self, rt: &R) -> Address {
+        let place = self.place.lock(rt);
+        place.address
     }
 
     // The peer listens there from now on: it is connected to anew. Whether it listened elsewhere.
-    fn put_address<R: Wait>(&self, rt: &R, address: SocketAddr) -> bool {
-        let mut known = self.address.lock(rt);
-        let is_new = *known != address;
-        *known = address;
-        drop(known);
+    fn put_address<R: Wait>(&self, rt: &R, address: Address) -> bool {
+        let mut place = self.place.lock(rt);
+        let is_new = place.address != address;
+        if is_new {
+            *place = Place {
+                address,
+                found: None,
+            };
+        }
+        drop(place);
         if is_new {
             self.is_stale.set();
         }
         is_new
+    }
+
+    /// That address led to the machine at the far end of a stream.
+    pub fn find<R: Wait>(&self, rt: &R, address: Address, stream: &TcpStream) {
+        let Ok(found) = stream.peer_addr() else {
+            return;
+        };
+        let mut place = self.place.lock(rt);
+        if place.address == address {
+            place.found = Some(found.ip().to_canonical());
+        }
+    }
+
+    // Whether the peer listens at that host, as far as is known: at its IP, or where its name led.
+    fn is_at<R: Wait>(&self, rt: &R, host: IpAddr) -> bool {
+        let place = self.place.lock(rt);
+        match place.address.ip() {
+            Some(ip) => ip.to_canonical() == host,
+            None => place.found == Some(host),
+        }
     }
 
     /// Whether the peer is to be connected to anew. It is told once.
@@ -206,13 +243,18 @@ impl PeerChannel {
     }
 
     /// Where the peer listens.
-    pub fn address<R: Wait>(&self, rt: &R) -> SocketAddr {
+    pub fn address<R: Wait>(&self, rt: &R) -> Address {
         self.way.address(rt)
     }
 
     /// The peer listens there from now on, and is connected to there. Whether it listened elsewhere.
-    pub fn put_address<R: Wait>(&self, rt: &R, address: SocketAddr) -> bool {
+    pub fn put_address<R: Wait>(&self, rt: &R, address: Address) -> bool {
         self.way.put_address(rt, address)
+    }
+
+    // Whether the peer listens at that host, as far as is known.
+    pub(crate) fn is_at<R: Wait>(&self, rt: &R, host: IpAddr) -> bool {
+        self.way.is_at(rt, host)
     }
 
     /// Since when the peer is connected to, in milliseconds since 1970.
@@ -246,7 +288,7 @@ impl PeerChannel {
     }
 }
 
-/// The far end of a channel, for the writer of its peer.
+/// What the writer of a peer has of its channel.
 #[derive(Drop)]
 pub struct FarEnd {
     pub peer: NodeId,
@@ -255,7 +297,7 @@ pub struct FarEnd {
     pub way: Arc<Way>,
 }
 
-/// The channel to a peer, and its far end.
+/// The channel to a peer, and what its writer has of it.
 pub(crate) fn channel_to(alloc: Global, peer: &Peer) -> Result<(PeerChannel, FarEnd), AllocError> {
     let way = Arc::new(alloc, Way::new(alloc, peer.address)).or(Err(AllocError))?;
     let Ok(seen) = Arc::try_clone(&way) else {

@@ -1,7 +1,7 @@
 //! The channels to all peers, of which more come while others are in use.
 
 use crate::peer_channel::{FarEnd, PeerChannel, channel_to};
-use cc_frames::Peer;
+use cc_addresses::Peer;
 use cc_views::NodeId;
 use std::alloc::{AllocError, Global};
 use std::net::IpAddr;
@@ -63,13 +63,13 @@ impl PeerChannels {
         self.slots.get(number)?.get()
     }
 
-    /// Whether a peer listens at an address of that host.
+    /// Whether a peer listens at that host: at its IP, or where its name led when it was last connected to.
     pub fn has_host<R: Wait>(&self, rt: &R, host: IpAddr) -> bool {
         for slot in &self.slots {
             let Some(channel) = slot.get() else {
                 return false;
             };
-            if channel.address(rt).ip() == host {
+            if channel.is_at(rt, host) {
                 return true;
             }
         }

@@ -1,14 +1,15 @@
-//! Writers: each writes to a stream what comes out of a channel.
+//! Writers: that of a connection writes what waits in its channel, that of a peer what the flusher left.
 
 use crate::flags::Flag;
 use crate::peer_channel::FarEnd;
 use crate::waker::Waker;
+use cc_addresses::{Address, ConnectFault, connect};
 use cc_views::NodeId;
 use crossbeam_channel::Receiver;
-use log::{Log, info};
+use log::{Log, info, warn};
 use std::alloc::{AllocError, Global};
 use std::io::{ErrorKind, Write};
-use std::net::{Net, SocketAddr, TcpStream};
+use std::net::{Net, TcpStream};
 use std::sync::atomic::{AtomicU64, Ordering};
 use std::sync::{Arc, Wait};
 use std::thread;
@@ -66,7 +67,8 @@ fn gather<R: Wait>(
 
 /// Writes to one peer what the flusher leaves. It connects to the peer, again after a failure, until the flag is set. Each time it
 /// wakes the flusher, which sends again what the peer hasn't acknowledged. It notes when the node is connected, and when it isn't any
-/// longer: at most one of each a second, and the last note says what is so a second later.
+/// longer: at most one of each a second, and the last note says what is so a second later. That the peer's name isn't found it notes
+/// once, until it is connected again.
 pub fn write_peer<R: Wait + Clock + Log + Net<Stream = TcpStream>>(
     rt: &R,
     alloc: Global,
@@ -82,10 +84,15 @@ pub fn write_peer<R: Wait + Clock + Log + Net<Stream = TcpStream>>(
         }
         let _ = end.way.take_stale();
         let address = end.way.address(rt);
-        if let Ok(stream) = TcpStream::connect_timeout(rt, &address, Duration::from_secs(1)) {
-            noted.connect(rt, me, end.peer, address);
-            let _ = write_over(rt, alloc, me, &end, stream, waker, over);
-            end.way.disconnect(rt);
+        match connect(rt, &address, Duration::from_secs(1)) {
+            Ok(stream) => {
+                end.way.find(rt, address, &stream);
+                noted.connect(rt, me, end.peer, address);
+                let _ = write_over(rt, alloc, me, &end, stream, waker, over);
+                end.way.disconnect(rt);
+            }
+            Err(ConnectFault::Unknown) => noted.miss(rt, me, end.peer, address),
+            Err(_) => {}
         }
         noted.lose(rt, me, end.peer, address);
         thread::sleep(rt, Duration::from_millis(PAUSE_MS));
@@ -124,6 +131,8 @@ struct Noted {
     is_connected: bool,
     // Until when no loss is noted, in milliseconds since 1970.
     quiet_until: u64,
+    // The address whose name wasn't found, which is noted.
+    missed: Option<Address>,
 }
 
 impl Noted {
@@ -131,19 +140,29 @@ impl Noted {
         Noted {
             is_connected: false,
             quiet_until: 0,
+            missed: None,
         }
     }
 
     // The peer is connected to.
-    fn connect<R: Log>(&mut self, rt: &R, me: NodeId, peer: NodeId, address: SocketAddr) {
+    fn connect<R: Log>(&mut self, rt: &R, me: NodeId, peer: NodeId, address: Address) {
         if !self.is_connected {
             info!(rt; "node {} is connected to node {} at {}", me.number(), peer.number(), address);
         }
         self.is_connected = true;
+        self.missed = None;
+    }
+
+    // The name in the peer's address isn't found.
+    fn miss<R: Log>(&mut self, rt: &R, me: NodeId, peer: NodeId, address: Address) {
+        if self.missed != Some(address) {
+            warn!(rt; "node {} doesn't find the name of node {} in {}", me.number(), peer.number(), address);
+        }
+        self.missed = Some(address);
     }
 
     // The peer isn't connected to.
-    fn lose<R: Log + Clock>(&mut self, rt: &R, me: NodeId, peer: NodeId, address: SocketAddr) {
+    fn lose<R: Log + Clock>(&mut self, rt: &R, me: NodeId, peer: NodeId, address: Address) {
         let now = millis(rt);
         if !self.is_connected || now < self.quiet_until {
             return;

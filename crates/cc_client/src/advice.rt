@@ -1,7 +1,7 @@
 //! What is to be done where something wasn't.
 
+use cc_addresses::Address;
 use std::fmt;
-use std::net::SocketAddr;
 
 /// What is to be done where a client's request, or the operator's, wasn't done.
 #[derive(Clone, Copy, Debug, PartialEq, Eq)]
@@ -11,7 +11,7 @@ pub enum Advice {
     /// The node serves as many sessions as it ever will.
     TooManySessions,
     /// The node to be retired is the one at this address, which was told.
-    Itself(SocketAddr),
+    Itself(Address),
     /// The node to be retired was heard within three seconds.
     Alive,
     /// No two in a row of so many collects agreed.

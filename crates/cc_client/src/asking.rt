@@ -6,6 +6,7 @@ use crate::printing::{print_answer, print_refusal, print_silence, print_use};
 use crate::sending::{connect, pause, receive, send};
 use crate::silence::{Silence, Told};
 use crate::snapshot::take_snapshot;
+use cc_addresses::Address;
 use cc_frames::Frame;
 use cc_messages::{Answer, Refusal};
 use cc_orders::AskOrder;
@@ -13,7 +14,7 @@ use cc_protocol::{Client, Heard, Incoming, Stage, Step};
 use std::alloc::Global;
 use std::io;
 use std::io::Write;
-use std::net::{Net, SocketAddr, TcpStream};
+use std::net::{Net, TcpStream};
 use std::time::Clock;
 
 /// Has a command done, or takes a snapshot: it asks, again where the node is busy or the connection breaks, or hasn't joined and the order waits
@@ -126,8 +127,8 @@ impl Asking {
     }
 
     // Somebody listens there. What was sent before, over another connection, may still be answered.
-    fn note_connection(&mut self, address: SocketAddr) {
-        if matches!(self.silence, Silence::Closed(_)) {
+    fn note_connection(&mut self, address: Address) {
+        if matches!(self.silence, Silence::Closed(_) | Silence::Unknown(_)) {
             self.silence = Silence::Mute(address);
         }
     }

@@ -15,6 +15,6 @@ mod snapshot;
 pub use advice::Advice;
 pub use asking::ask_node;
 pub use deadline::Deadline;
-pub use operating::{leave_node, retire_node};
+pub use operating::{leave_node, retire_node, share_node};
 pub use sending::{connect, pause, receive, send};
 pub use silence::{Silence, Told};

@@ -4,14 +4,17 @@ use crate::advice::Advice;
 use crate::deadline::Deadline;
 use crate::sending::{connect, receive, send};
 use crate::silence::{Silence, Told};
+use cc_addresses::Address;
 use cc_frames::Frame;
 use cc_messages::Refusal;
-use cc_orders::{LeaveOrder, RetireOrder};
-use cc_protocol::{Incoming, Lefts, Objection, Outcome, Retirement, outcome_of, probe_frame};
+use cc_orders::{LeaveOrder, RetireOrder, ShareOrder};
+use cc_protocol::{
+    Incoming, Lefts, Objection, Outcome, Retirement, outcome_of, probe_frame, share_outcome_of,
+};
 use std::alloc::Global;
 use std::io;
 use std::io::Write;
-use std::net::{Net, SocketAddr, TcpStream};
+use std::net::{Net, TcpStream};
 use std::time::Clock;
 
 // For how many seconds it waits.
@@ -40,7 +43,7 @@ pub fn retire_node<R: Net<Stream = TcpStream> + Clock, W: Write>(
     rt: &R,
     alloc: Global,
     order: &RetireOrder,
-    address: &SocketAddr,
+    address: &Address,
     output: &mut W,
 ) -> io::Result<Told> {
     let node = order.node;
@@ -59,9 +62,27 @@ pub fn retire_node<R: Net<Stream = TcpStream> + Clock, W: Write>(
     print_undone(address, brought, output)
 }
 
+/// Has so many asks of a node begin together. It prints `share` and the number, also where it was that before; else as
+/// `leave_node`.
+pub fn share_node<R: Net<Stream = TcpStream> + Clock, W: Write>(
+    rt: &R,
+    alloc: Global,
+    order: &ShareOrder,
+    output: &mut W,
+) -> io::Result<Told> {
+    let share = order.share;
+    let request = Request::Share(Frame::Share { share });
+    let brought = request.bring(rt, alloc, &order.address);
+    drop(request);
+    if let Ok(Outcome::Done) = brought {
+        writeln!(output, "share {}", share.asks())?;
+    }
+    print_undone(&order.address, brought, output)
+}
+
 // Prints why a request isn't done, if it isn't.
 fn print_undone<W: Write>(
-    address: &SocketAddr,
+    address: &Address,
     brought: Result<Outcome, Silence>,
     output: &mut W,
 ) -> io::Result<Told> {
@@ -86,7 +107,7 @@ fn print_refused<W: Write>(why: Refusal, output: &mut W) -> io::Result<()> {
 }
 
 fn print_objection<W: Write>(
-    address: &SocketAddr,
+    address: &Address,
     why: Objection,
     output: &mut W,
 ) -> io::Result<Told> {
@@ -104,13 +125,20 @@ fn print_objection<W: Write>(
 enum Request {
     Leave,
     Retire(Frame),
+    Share(Frame),
 }
 
-// What the operator has heard so far.
+// What is asked for, and what the operator has heard of it so far.
+#[derive(Clone, Copy)]
+enum Heard {
+    OfLeave,
+    OfRetirement(Retirement),
+    OfShare,
+}
+
 #[derive(Clone, Copy)]
 struct Watch {
-    // Of a retirement. None where the node is to leave.
-    heard: Option<Retirement>,
+    heard: Heard,
     is_probed: bool,
 }
 
@@ -120,7 +148,7 @@ impl Request {
         &self,
         rt: &R,
         alloc: Global,
-        address: &SocketAddr,
+        address: &Address,
     ) -> Result<Outcome, Silence> {
         let deadline = Deadline::new(rt, PATIENCE);
         let stream = connect(rt, address, &deadline)?;
@@ -150,14 +178,15 @@ impl Request {
     fn send(&self, alloc: Global, stream: &TcpStream) -> Option<()> {
         match self {
             Request::Leave => send_twice(alloc, stream, &Frame::Leave),
-            Request::Retire(frame) => send_twice(alloc, stream, frame),
+            Request::Retire(frame) | Request::Share(frame) => send_twice(alloc, stream, frame),
         }
     }
 
     fn watch(&self) -> Watch {
         let heard = match self {
-            Request::Leave => None,
-            Request::Retire(_) => Some(Retirement::new()),
+            Request::Leave => Heard::OfLeave,
+            Request::Retire(_) => Heard::OfRetirement(Retirement::new()),
+            Request::Share(_) => Heard::OfShare,
         };
         Watch {
             heard,
@@ -201,19 +230,22 @@ impl Watch {
     }
 
     fn hear(&mut self, frame: &Frame) -> Option<Outcome> {
-        let Some(mut heard) = self.heard else {
-            return outcome_of(frame);
-        };
-        let outcome = heard.hear(frame);
-        self.heard = Some(heard);
-        outcome
+        match self.heard {
+            Heard::OfLeave => outcome_of(frame),
+            Heard::OfShare => share_outcome_of(frame),
+            Heard::OfRetirement(mut heard) => {
+                let outcome = heard.hear(frame);
+                self.heard = Heard::OfRetirement(heard);
+                outcome
+            }
+        }
     }
 
     // Whether a request was refused as Left, and nobody asked whose that is.
     fn is_open(&self) -> bool {
         match self.heard {
-            Some(heard) => heard.lefts != Lefts::Neither && !self.is_probed,
-            None => false,
+            Heard::OfRetirement(heard) => heard.lefts != Lefts::Neither && !self.is_probed,
+            Heard::OfLeave | Heard::OfShare => false,
         }
     }
 
@@ -226,6 +258,9 @@ impl Watch {
     }
 
     fn end(&self) -> Option<Outcome> {
-        self.heard?.end()
+        match self.heard {
+            Heard::OfRetirement(heard) => heard.end(),
+            Heard::OfLeave | Heard::OfShare => None,
+        }
     }
 }

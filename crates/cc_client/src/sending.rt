@@ -2,13 +2,14 @@
 
 use crate::deadline::Deadline;
 use crate::silence::Silence;
+use cc_addresses::{Address, ConnectFault};
 use cc_frames::{Frame, encode_frame};
 use cc_protocol::Incoming;
 use std::alloc::Global;
-use std::io::{ErrorKind, Write};
-use std::net::{Net, SocketAddr, TcpStream};
+use std::io::Write;
+use std::net::{Net, TcpStream};
+use std::thread;
 use std::time::{Clock, Duration};
-use std::{io, thread};
 
 // How long one try to connect takes at most, and how long a client pauses between two, in milliseconds.
 const CONNECT_MS: u64 = 1000;
@@ -27,28 +28,30 @@ fn within<R: Clock>(rt: &R, deadline: &Deadline, millis: u64) -> Option<Duration
     Some(deadline.left(rt)?.min(Duration::from_millis(millis)))
 }
 
-/// A connection to a node, which is made within a second and before the deadline is over; else why none is.
+/// A connection to a node, which is made within a second and before the deadline is over; else why none is. Where it is written by
+/// a name, that is looked up first, and each of several places has that time.
 pub fn connect<R: Net<Stream = TcpStream> + Clock>(
     rt: &R,
-    address: &SocketAddr,
+    address: &Address,
     deadline: &Deadline,
 ) -> Result<TcpStream, Silence> {
     let Some(patience) = within(rt, deadline, CONNECT_MS) else {
         return Err(Silence::Mute(*address));
     };
-    match TcpStream::connect_timeout(rt, address, patience) {
+    match cc_addresses::connect(rt, address, patience) {
         Ok(stream) => {
             let _ = stream.set_nodelay(true);
             Ok(stream)
         }
-        Err(error) => Err(silence_of(&error, address)),
+        Err(fault) => Err(silence_of(fault, *address)),
     }
 }
 
-fn silence_of(error: &io::Error, address: &SocketAddr) -> Silence {
-    match error.kind() {
-        ErrorKind::ConnectionRefused => Silence::Closed(*address),
-        _ => Silence::Mute(*address),
+fn silence_of(fault: ConnectFault, address: Address) -> Silence {
+    match fault {
+        ConnectFault::Unknown => Silence::Unknown(address),
+        ConnectFault::Refused => Silence::Closed(address),
+        ConnectFault::Mute => Silence::Mute(address),
     }
 }
 

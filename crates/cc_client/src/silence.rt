@@ -1,24 +1,27 @@
 //! Why no answer came.
 
 use crate::advice::Advice;
+use cc_addresses::Address;
 use std::error::Error;
 use std::fmt;
-use std::net::SocketAddr;
 
 /// Why no answer came.
 #[derive(Clone, Copy, Debug, PartialEq, Eq)]
 pub enum Silence {
+    /// Its name wasn't found, the last time that it was looked up.
+    Unknown(Address),
     /// Nothing listens there: the last try to connect was refused.
-    Closed(SocketAddr),
+    Closed(Address),
     /// No connection could be made there in a second, or nothing came over one.
-    Mute(SocketAddr),
+    Mute(Address),
     /// What was asked was sent there, and no answer came.
-    Taken(SocketAddr),
+    Taken(Address),
 }
 
 impl fmt::Display for Silence {
     fn fmt<W: fmt::Write>(&self, f: &mut fmt::Formatter<W>) -> fmt::Result {
         match self {
+            Silence::Unknown(address) => write!(f, "the name in {address} isn't found"),
             Silence::Closed(address) => write!(f, "nothing listens at {address}"),
             Silence::Mute(address) => write!(f, "{address} doesn't answer"),
             Silence::Taken(address) => {

@@ -24,6 +24,7 @@ length-body frames.Leave is = omega arith
 length-body (frames.Retire node) is = omega arith
 length-body (frames.Skip from posts) is = omega arith
 length-body (frames.RetireIfSilent node) is = omega arith
+length-body (frames.Share share) is = omega arith
 
 -- and at least its kind
 pub length-body-positive : (f : Frame) → 1 ≤ length (body_spelling f)
@@ -36,3 +37,4 @@ length-body-positive frames.Leave = omega arith
 length-body-positive (frames.Retire node) = omega arith
 length-body-positive (frames.Skip from posts) = omega arith
 length-body-positive (frames.RetireIfSilent node) = omega arith
+length-body-positive (frames.Share share) = omega arith

@@ -6,13 +6,13 @@ use Rattle.std.proofs.lemmas.Bool.Decides.{nat_tests}
 use Rattle.std.proofs.lemmas.List.{take_at, drop_at, length-append}
 use Rattle.cc_wire.specs.declared.fault.WireFault.TheVariants.{Short}
 use Rattle.cc_frames.specs.declared.frame.Frame.{Frame}
-use Rattle.cc_frames.specs.declared.frame.Frame.TheVariants.{Post, Ack, Ask, Reply, Refused, Leave, Retire, Skip, RetireIfSilent}
+use Rattle.cc_frames.specs.declared.frame.Frame.TheVariants.{Post, Ack, Ask, Reply, Refused, Leave, Retire, Skip, RetireIfSilent, Share}
 use Rattle.cc_wire.specs.Reading.{◌>>=◌, Reading, via, bytes_at, whole}
 use Rattle.cc_frames.specs.Frames.{replied_spelling, IsReplied, replied_at, refused_spelling, IsRefused, refused_at, body_spelling, frame_spelling}
 use Rattle.cc_frames.specs.Frames.{IsFrame, body_fields, body_at, body_length_at, enclosed_at, frame_at}
 use Rattle.cc_wire.proofs.Spelled.{IsBytes, bind_ok, guard_ok, ok_is, Takes, Spelled, both, as_facts, tested, counted, byte_spelled, bytes_spelled}
 use Rattle.cc_wire.proofs.Spelled.{nothing_spelled, kind_or, kinded_takes}
-use Rattle.cc_wire.proofs.Formats.{limited_spelled, id_spelled, u32_spelled, u64_spelled}
+use Rattle.cc_wire.proofs.Formats.{limited_spelled, id_spelled, u32_spelled, u64_spelled, ask_share_spelled}
 use Rattle.cc_wire.proofs.AnswerFormat.{answer_spelled}
 use Rattle.cc_wire.proofs.EventFormat.{numbered_spelled, delivery_spelled, place_spelled, asked_spelled, skip_spelled}
 use Rattle.cc_frames.proofs.BodyLengths.{length-body, length-body-positive}
@@ -53,7 +53,8 @@ module _ (bytes after : List ℕ) (k : ℕ) (m : Frame) (rest : List ℕ) (fits 
       case id_spelled (λ node. Retire node) 7 (λ a h. h) (λ a. refl) _ (
       case skip_spelled (λ f. Skip f.0 f.1) 32 (λ a h. h) (λ a. refl) _ (
       case id_spelled (λ node. RetireIfSilent node) 36 (λ a h. h) (λ a. refl) _ (
-      λ e. absurd cc)))))))))
+      case ask_share_spelled (λ share. Share share) 37 (λ a h. h) (λ a. refl) _ (
+      λ e. absurd cc))))))))))
 
 -- what is spelled so is read again
 body_again : (m : Frame) (rest : List ℕ) → IsFrame m → body_at (body_spelling m ++ rest) ≡ Ok (m, rest)
@@ -67,6 +68,7 @@ body_again Leave rest is = refl
 body_again (Retire node) rest is = rw (id_spelled.again node rest is) refl
 body_again (Skip from posts) rest is = rw (skip_spelled.again (from, posts) rest is) refl
 body_again (RetireIfSilent node) rest is = rw (id_spelled.again node rest is) refl
+body_again (Share share) rest is = rw (ask_share_spelled.again share rest is) refl
 
 pub body_spelled : Spelled body_at IsFrame body_spelling
 unfolding body_at

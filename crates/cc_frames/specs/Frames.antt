@@ -2,10 +2,11 @@
 use Rattle.std.specs.Prelude.{ℕ, ◌<◌, ◌^◌, List, [], ◌∷◌, ◌++◌, length, take, Ok, Err, ◌==◌, if◌then◌else◌}
 use Rattle.std.specs.Int.{w32, w64, to_be_bytes}
 use Rattle.cc_wire.specs.declared.fault.WireFault.TheVariants.{Short, BadKind}
+use Rattle.cc_messages.specs.Shares.{IsAskShare}
 use Rattle.cc_messages.specs.declared.answer.Answer.{Answer}
 use Rattle.cc_frames.specs.declared.frame.Frame.{Frame}
-use Rattle.cc_frames.specs.declared.frame.Frame.TheVariants.{Post, Ack, Ask, Reply, Refused, Leave, Retire, Skip, RetireIfSilent}
-use Rattle.cc_wire.specs.Reading.{◌>>=◌, Reading, ◌⊗◌, via, nothing_at, byte_at, kinded, bytes_at, number_at, number_from, limited, whole}
+use Rattle.cc_frames.specs.declared.frame.Frame.TheVariants.{Post, Ack, Ask, Reply, Refused, Leave, Retire, Skip, RetireIfSilent, Share}
+use Rattle.cc_wire.specs.Reading.{◌>>=◌, Reading, ◌⊗◌, via, nothing_at, byte_at, kinded, bytes_at, number_at, number_from, ask_share_at, limited, whole}
 use Rattle.cc_frames.specs.Limits.{body_limit}
 use Rattle.cc_wire.specs.Spelling.{Spells, IsId}
 use Rattle.cc_wire.specs.Answers.{answer_spelling, IsAnswer, answer_at}
@@ -45,6 +46,7 @@ body_spelling Leave = 6 ∷ []
 body_spelling (Retire node) = 7 ∷ to_be_bytes w32 node
 body_spelling (Skip from posts) = 32 ∷ skip_spelling from posts
 body_spelling (RetireIfSilent node) = 36 ∷ to_be_bytes w32 node
+body_spelling (Share share) = 37 ∷ share ∷ []
 
 abbrev pub frame_spelling : Frame → List ℕ
 frame_spelling frame = to_be_bytes w32 (length (body_spelling frame)) ++ body_spelling frame
@@ -59,6 +61,7 @@ IsFrame Leave = Unit {0}
 IsFrame (Retire node) = IsId node
 IsFrame (Skip from posts) = IsSkip from posts
 IsFrame (RetireIfSilent node) = IsId node
+IsFrame (Share share) = IsAskShare share
 
 abbrev pub SpellsFrame : List ℕ → Frame → Type 0
 SpellsFrame = Spells IsFrame frame_spelling
@@ -76,7 +79,8 @@ body_fields kind =
     else (if kind == 7 then via (λ node. Retire node) (number_from 1)
     else (if kind == 32 then via (λ f. Skip f.0 f.1) skip_at
     else (if kind == 36 then via (λ node. RetireIfSilent node) (number_from 1)
-    else (λ bytes. Err (BadKind kind))))))))))
+    else (if kind == 37 then via (λ share. Share share) ask_share_at
+    else (λ bytes. Err (BadKind kind)))))))))))
 
 unfoldable pub body_at : Reading Frame
 body_at = kinded body_fields

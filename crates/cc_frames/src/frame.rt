@@ -11,11 +11,11 @@ ghost use Rattle.cc_frames.specs.Frames.{replied_spelling, IsReplied, refused_sp
 ghost use Rattle.cc_frames.specs.Frames.{SpellsFrame, body_at, body_fields, replied_at, refused_at, body_length_at, enclosed_at, frame_at};
 
 use byteorder::{BigEndian, ByteOrder};
-use cc_messages::{Answer, Command, Message, PostRange};
+use cc_messages::{Answer, Command, Message, PostRange, Share};
 use cc_views::{NoMemory, NodeId};
 use cc_wire::{
     Reader, WireFault, put_answer, put_asked, put_delivery, put_id, put_numbered, put_place,
-    put_skip, put_u8, put_u32, put_u64, settled,
+    put_share, put_skip, put_u8, put_u32, put_u64, settled,
 };
 use std::alloc::{AllocError, Global};
 
@@ -66,6 +66,10 @@ pub enum Frame {
     /// As `Retire`, unless the node was heard of so recently that it can't be dead.
     RetireIfSilent {
         node: NodeId,
+    },
+    /// The operator tells how many asks of one kind may begin together from the next round on.
+    Share {
+        share: Share,
     },
 }
 
@@ -160,6 +164,10 @@ fn read_body_fields(alloc: Global, reader: &mut Reader<'_>, kind: u8) -> Result<
         36 => {
             let node = reader.id(1)?;
             Ok(Frame::RetireIfSilent { node })
+        }
+        37 => {
+            let share = reader.share()?;
+            Ok(Frame::Share { share })
         }
         kind => Err(WireFault::BadKind(kind)),
     }
@@ -333,6 +341,10 @@ fn put_body(out: &mut Vec<u8>, frame: &Frame) -> Result<(), AllocError>
         Frame::RetireIfSilent { node } => {
             put_u8(out, 36)?;
             put_id(out, *node)
+        }
+        Frame::Share { share } => {
+            put_u8(out, 37)?;
+            put_share(out, *share)
         }
     }
 }

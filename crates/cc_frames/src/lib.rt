@@ -4,12 +4,10 @@
 
 mod frame;
 mod frame_reader;
-mod peer;
 mod sizes;
 
 pub use frame::{
     Frame, decode_frame, encode_frame, encode_post, encode_reply, one_spelling_of_frames,
 };
 pub use frame_reader::{Fed, FrameReader, feeds_any_cutting};
-pub use peer::Peer;
 pub use sizes::largest_body;

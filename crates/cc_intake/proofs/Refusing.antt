@@ -50,6 +50,7 @@ own_reasons c (event.Retire q) = (own _ _ tt, (own _ _ tt, (own _ _ tt, (own _ _
 own_reasons c (event.Lapse q) = (own _ _ tt, (own _ _ tt, (own _ _ tt, (own _ _ tt, (own _ _ tt, tt)))))
 own_reasons c event.Snapshot = (own _ _ tt, (own _ _ tt, (own _ _ tt, (own _ _ tt, (own _ _ tt, tt)))))
 own_reasons c (event.Skip from posts) = (own _ _ tt, (own _ _ tt, (own _ _ tt, (own _ _ tt, (own _ _ tt, (own _ _ tt, tt))))))
+own_reasons c (event.Share share) = (own _ _ tt, (own _ _ tt, (own _ _ tt, (own _ _ tt, (own _ _ tt, tt)))))
 
 own_reason : (c : Core) (e : Event) → IfSome (decides c e) IsOwn
 unfolding decides decides_within

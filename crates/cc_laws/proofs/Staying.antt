@@ -157,6 +157,7 @@ module _ (all : List ℕ) (c : Core) (k : KnowsFixed all c) where
   quiet_post (event.Lapse q) h = tt
   quiet_post event.Snapshot h = k.changes
   quiet_post (event.Skip from posts) h = tt
+  quiet_post (event.Share share) h = tt
   quiet_post _ h = absurd h
 
   message_known : (from n : ℕ) (m : Message) → IsOfRound all m → (churn_told c from n m).changes ≡ fixed_changes all

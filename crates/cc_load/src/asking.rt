@@ -1,13 +1,14 @@
 //! A client of a load.
 
 use crate::tally::Tally;
+use cc_addresses::Address;
 use cc_client::{Deadline, Silence, connect, pause, receive, send};
 use cc_frames::Frame;
 use cc_messages::Refusal;
 use cc_orders::Operation;
 use cc_protocol::{Client, Heard, Incoming, Stage, Step};
 use std::alloc::Global;
-use std::net::{Net, SocketAddr, TcpStream};
+use std::net::{Net, TcpStream};
 use std::thread;
 use std::time::{Clock, Duration};
 
@@ -17,7 +18,7 @@ const AGAIN_MS: u64 = 1;
 /// What a client asks for, where, in which session, and until when.
 #[derive(Clone, Copy)]
 pub struct Task {
-    pub address: SocketAddr,
+    pub address: Address,
     pub session: u64,
     pub operation: Operation,
     /// Until when it asks.

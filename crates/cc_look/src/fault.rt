@@ -1,23 +1,25 @@
 //! Why a node's status isn't known.
 
+use cc_addresses::Address;
 use std::alloc::AllocError;
 use std::error::Error;
 use std::fmt;
-use std::net::SocketAddr;
 
 /// Why the status of the node at an address isn't known.
 #[derive(Clone, Copy, Debug, PartialEq, Eq)]
 pub enum LookFault {
+    /// Its name wasn't found.
+    Unknown(Address),
     /// Nothing listens there.
-    Closed(SocketAddr),
+    Closed(Address),
     /// No connection could be made there, or no whole answer came over one in five seconds.
-    Mute(SocketAddr),
+    Mute(Address),
     /// The node has just been started, and tells its status within a second.
-    Starting(SocketAddr),
+    Starting(Address),
     /// What came isn't the status of a node.
-    Other(SocketAddr),
+    Other(Address),
     /// More than 4 MiB came.
-    TooLong(SocketAddr),
+    TooLong(Address),
     /// A growth was refused.
     NoMemory,
 }
@@ -25,6 +27,7 @@ pub enum LookFault {
 impl fmt::Display for LookFault {
     fn fmt<W: fmt::Write>(&self, f: &mut fmt::Formatter<W>) -> fmt::Result {
         match self {
+            LookFault::Unknown(address) => write!(f, "the name in {address} isn't found"),
             LookFault::Closed(address) => write!(f, "nothing listens at {address}"),
             LookFault::Mute(address) => write!(f, "{address} doesn't answer"),
             LookFault::Starting(address) => write!(

@@ -3,10 +3,11 @@
 ghost use Rattle.std.specs.Prelude.{◌≤◌, length, IfOk};
 
 use crate::fault::LookFault;
+use cc_addresses::{Address, ConnectFault};
 use std::alloc::Global;
 use std::io;
 use std::io::{ErrorKind, Read, Write};
-use std::net::{Net, SocketAddr, TcpStream};
+use std::net::{Net, TcpStream};
 use std::time::{Clock, Duration, Instant};
 
 // How long one try to connect takes at most, in milliseconds.
@@ -18,7 +19,7 @@ const MOST_BYTES: usize = 4 << 20;
 /// A page of a node.
 #[derive(Clone, Copy)]
 pub struct Place<'a> {
-    pub address: &'a SocketAddr,
+    pub address: &'a Address,
     pub page: &'a str,
     /// For how many seconds its answer is read.
     pub patience: u64,
@@ -42,17 +43,13 @@ pub fn fetch<R: Net<Stream = TcpStream> + Clock>(
     }
 }
 
-fn connect<R: Net<Stream = TcpStream>>(
-    rt: &R,
-    address: &SocketAddr,
-) -> Result<TcpStream, LookFault> {
+fn connect<R: Net<Stream = TcpStream>>(rt: &R, address: &Address) -> Result<TcpStream, LookFault> {
     let patience = Duration::from_millis(CONNECT_MS);
-    match TcpStream::connect_timeout(rt, address, patience) {
+    match cc_addresses::connect(rt, address, patience) {
         Ok(stream) => Ok(stream),
-        Err(error) => match error.kind() {
-            ErrorKind::ConnectionRefused => Err(LookFault::Closed(*address)),
-            _ => Err(LookFault::Mute(*address)),
-        },
+        Err(ConnectFault::Unknown) => Err(LookFault::Unknown(*address)),
+        Err(ConnectFault::Refused) => Err(LookFault::Closed(*address)),
+        Err(ConnectFault::Mute) => Err(LookFault::Mute(*address)),
     }
 }
 

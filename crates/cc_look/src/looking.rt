@@ -5,13 +5,14 @@ use crate::fetching::{Place, fetch};
 use crate::head::{body_of, reason_of};
 use crate::status::Status;
 use crate::table::Table;
+use cc_addresses::Address;
 use cc_orders::{AnswerForm, StatusOrder};
 use cc_texts::HarmlessJson;
 use serde_json::Value;
 use std::alloc::Global;
 use std::io;
 use std::io::Write;
-use std::net::{Net, SocketAddr, TcpStream};
+use std::net::{Net, TcpStream};
 use std::time::Clock;
 
 // For how many seconds a status is read, and a reason.
@@ -62,7 +63,7 @@ pub fn look_at<R: Net<Stream = TcpStream> + Clock, W: Write>(
 pub fn reason_at<R: Net<Stream = TcpStream> + Clock>(
     rt: &R,
     alloc: Global,
-    address: &SocketAddr,
+    address: &Address,
 ) -> Option<String> {
     let place = Place {
         address,

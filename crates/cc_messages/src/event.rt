@@ -5,6 +5,7 @@ ghost use Rattle.std.specs.Prelude.{◌≡◌, IfOk};
 use crate::command::Command;
 use crate::message::Message;
 use crate::post_range::PostRange;
+use crate::share::Share;
 use cc_views::{NoMemory, NodeId};
 use std::alloc::Global;
 
@@ -47,6 +48,10 @@ pub enum Event {
         from: NodeId,
         posts: PostRange,
     },
+    /// The operator tells how many asks may begin together from the next round on.
+    Share {
+        share: Share,
+    },
 }
 
 impl Event {
@@ -86,6 +91,7 @@ impl Event {
                 from: *from,
                 posts: *posts,
             }),
+            Event::Share { share } => Ok(Event::Share { share: *share }),
         }
     }
 }

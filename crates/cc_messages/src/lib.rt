@@ -10,6 +10,7 @@ mod number_list;
 mod output;
 mod post_range;
 mod refusal;
+mod share;
 
 pub use answer::Answer;
 pub use command::Command;
@@ -19,3 +20,4 @@ pub use number_list::NumberList;
 pub use output::Output;
 pub use post_range::PostRange;
 pub use refusal::Refusal;
+pub use share::Share;

@@ -36,7 +36,7 @@ use Rattle.cc_node.specs.Node.{Node, step, after, line, keep, add, forget_asked,
 use Rattle.cc_node.specs.Refusals.{decides_within, nothing_to_ack, too_many_nodes, nothing_to_lapse, set_full, outbox_full, spent, any_overruns}
 use Rattle.cc_node.specs.OneAtATime.{acked_alone, ops_alone, quorum_told, next_alone, post_alone, outputs_alone, set_full_alone}
 use Rattle.cc_node.specs.OneAtATime.{outbox_full_alone, spent_alone, decides_alone, step_alone, after_alone, line_alone, IsLawfulAlone}
-use Rattle.cc_node.proofs.Deciding.{of_enter, of_entered, of_member, of_retire, of_number, of_range, of_request}
+use Rattle.cc_node.proofs.Deciding.{of_enter, of_entered, of_member, of_retire, of_number, of_range, of_request, of_share}
 use Rattle.cc_node.proofs.OrderLaws.{none_behind, busy_same, idle_within, none_waiting}
 use Rattle.cc_node.proofs.RefusalLaws.{free_within}
 use Rattle.cc_node.proofs.ToldLaws.{anew_line}
@@ -165,6 +165,7 @@ refused_alone c (event.Lapse q) none = behind (of_member c ++ nothing_to_lapse c
 refused_alone c event.Snapshot none = behind (of_member c) _ _ (last_two c event.Snapshot none tt)
 refused_alone c (event.Skip from posts) none =
     behind (of_entered c ++ of_range c from posts ++ too_many_nodes c (from ∷ []) ∷ []) _ _ (last_spent c (event.Skip from posts) none tt)
+refused_alone c (event.Share share) none = behind (of_entered c ++ of_share share c) _ _ (last_spent c (event.Share share) none tt)
 
 -- ---- one step
 

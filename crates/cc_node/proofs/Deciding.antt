@@ -20,6 +20,8 @@ use Rattle.cc_views.specs.Rows.{ViewMap}
 use Rattle.cc_changes.specs.declared.fraction.Fraction.{Fraction}
 use Rattle.cc_messages.specs.Messages.{is_snapshot}
 use Rattle.cc_messages.specs.Ranges.{Range}
+use Rattle.cc_messages.specs.Shares.{IsAskShare}
+use Rattle.cc_messages.specs.ShareLaws.{share_is}
 use Rattle.cc_messages.specs.declared.event.Event.TheVariants as event
 use Rattle.cc_messages.specs.declared.message.Message.{Message}
 use Rattle.cc_messages.specs.declared.message.Message.TheVariants as message
@@ -36,7 +38,7 @@ use Rattle.cc_messages.specs.declared.command.Command.{Command}
 use Rattle.cc_node.specs.Core.{Core, asked_of, churned, tells, told_if, churn_told, join_told, asks_anew, anew_if, ops_anew, question_if}
 use Rattle.cc_node.specs.Core.{post_of_snapshot, handled, next, post, quorum}
 use Rattle.cc_node.specs.Refusals.{any_overruns, spent, decides, decides_within, left, has_gone, not_entered, already_entered, not_joined, old, gap}
-use Rattle.cc_node.specs.Refusals.{gap_before, nothing_to_ack, too_many_sessions, repeat, stale, skip}
+use Rattle.cc_node.specs.Refusals.{gap_before, nothing_to_ack, too_many_sessions, repeat, stale, skip, same_share, busy_beyond}
 use Rattle.cc_node.proofs.LawfulLaws.{hears_now, hears_skip, request_now}
 use Rattle.cc_node.proofs.ToldLaws.{snapshot_tag, snapshot_number, snapshot_echoes, anew_number, anew_one, told_one, not_told, not_anew}
 
@@ -58,6 +60,10 @@ of_retire q c = left c ∷ has_gone c q ∷ not_entered c ∷ []
 -- by which the number of a delivery does, and that of a request
 abbrev pub of_number : Core → ℕ → ℕ → Message → List (Option Refusal)
 of_number c from n m = old c from n ∷ gap c from n m ∷ []
+
+-- by which the operations refuse another share
+abbrev pub of_share : ℕ → Core → List (Option Refusal)
+of_share share c = same_share share c ∷ busy_beyond share c ∷ []
 
 -- by which the numbers that are skipped do
 abbrev pub of_range : Core → ℕ → Range → List (Option Refusal)
@@ -265,6 +271,13 @@ skip_is_spent c from posts over =
 pub skip_passes : (c : Core) (from : ℕ) (posts : Range) → posts.last ≤ counter_limit → spent c (event.Skip from posts) ≡ None
 skip_passes c from posts within =
     spent_skip c from posts ∙ ap (λ b. then_some b refusal.Spent) (le-ltb counter_limit posts.last within)
+
+pub spent_share : (c : Core) (share : ℕ) → IsAskShare share → spent c (event.Share share) ≡ None
+unfolding next
+spent_share c share is =
+    ap (λ b. then_some b refusal.Spent)
+    (any_of _ _ _ _ _ false false false false false (passes_none c.ops.number) (stays c.ops.tag) (stays_at c.posts (c.posts + 0) (omega arith))
+    (stays c.churn.echoes) (share_is share is))
 
 -- whether these operations have a number or a tag past its limit
 abbrev pub counts : Core → ops.Ops → Bool

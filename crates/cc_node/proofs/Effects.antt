@@ -3,7 +3,7 @@
 --     told_as, anew_as      what counting a snapshot makes of it, and a phase that begins anew
 --     next_keeps            what is the next core is lawful
 --     .._room               that each part's call has what it asks for
-use Rattle.std.proofs.Common.{◌≡◌, ℕ, ◌+◌, ◌-◌, ◌<◌, ◌≤◌, Bool, true, false, cond, ◌&&◌, List, [], ◌∷◌, ◌++◌, refl, sym, ap, subst, ◌∙◌, arith, add-zero}
+use Rattle.std.proofs.Common.{◌≡◌, ℕ, ◌+◌, ◌-◌, ◌<◌, ◌≤◌, Bool, true, false, cond, ◌&&◌, List, [], ◌∷◌, ◌++◌, length, refl, sym, ap, subst, ◌∙◌, arith, add-zero}
 use Rattle.std.specs.Prelude.{Option, Some, None, is_some, IsTrue, IsFalse, ◌==◌, if◌then◌else◌}
 use Rattle.std.specs.Bool.{then_some}
 use Rattle.std.specs.Option.{option_len}
@@ -42,7 +42,7 @@ use Rattle.cc_node.specs.Refusals.{decides}
 use Rattle.cc_node.proofs.Deciding.{posts_if_idle}
 use Rattle.cc_node.proofs.KeptLaws.{posts_forget}
 use Rattle.cc_node.proofs.KnownLaws.{none_waits}
-use Rattle.cc_node.proofs.LawfulLaws.{next_core, quorum_fits, step_lawful}
+use Rattle.cc_node.proofs.LawfulLaws.{next_core, quorum_fits, others_fit, step_lawful}
 use Rattle.cc_node.proofs.RefusalLaws.{takes_delivery, takes_ask, takes_retire, takes_skip, takes_any}
 use Rattle.cc_node.proofs.ToldLaws.{told_more, told_one, anew_view, anew_number, anew_more, anew_one}
 
@@ -82,6 +82,11 @@ next_skip {c} from posts is linked =
 pub next_snapshot : {c s : Core} → c ≡ s → record c { posts = c.posts + 1 } ≡ next s event.Snapshot
 unfolding next
 next_snapshot is = rw (← is) refl
+
+pub next_share : {c s : Core} {o : ops.Ops} (share : ℕ) → c ≡ s → o ≡ ops.with_share share c.ops → record c { ops = o } ≡ next s (event.Share share)
+unfolding next
+next_share {c} share is made =
+    (λ i. record c { ops = made i; posts = sym (add-zero c.posts) i }) ∙ ap (λ (d : Core). next d (event.Share share)) is
 
 len_is : {X : Type 0} (o : Option X) → option_len o ≡ cond (is_some o) 1 0
 len_is None = refl
@@ -181,6 +186,9 @@ delivery_room {c} {s} {from} {m} n is d h =
 pub skip_room : {c s : Core} (from : ℕ) (posts : Range) → c ≡ s → decides s (event.Skip from posts) ≡ None → table.len (add_peer c.posts from c.links) ≤ 256
 skip_room {c} from posts is d =
     ltb-false known_limit (table.len (add_all c.posts (from ∷ []) c.links)) (takes_skip c from posts (rw (← is) at d)).nodes
+
+pub share_room : {c s : Core} (share : ℕ) → c ≡ s → decides s (event.Share share) ≡ None → IsLawfulCore c → length c.ops.others < share
+share_room {c} share is d h = others_fit c share (rw (← is) at d) h
 
 pub record AskRoom (c d : Core) (s r : ℕ) (k : Command) : Type 0 where
   pub free : busy line_limit s c.ops ≡ None

@@ -48,6 +48,7 @@ reaches_before c (event.Acked peer n) m made h = cc
 reaches_before c (event.Retire q) m made h = cc
 reaches_before c (event.Lapse q) m made h = cc
 reaches_before c (event.Skip from posts) m made h = cc
+reaches_before c (event.Share share) m made h = cc
 reaches_before c _ m made h = reaches_within c.posts c.links h
 
 only_live : (b : Bool) (posts : ℕ) (o : Option Link) → IfSome o (λ l. reach l ≤ posts) → IfSome (cond b o None) (λ l. reach l ≤ posts)

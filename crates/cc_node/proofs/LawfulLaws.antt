@@ -1,10 +1,11 @@
 -- An event that isn't refused leaves a lawful node lawful.
 --     core_with, linked_core        a core with other parts; with other changes and links alone
 --     next_core, step_lawful        the core after an event, and the node
+--     others_fit                    another share that is taken has room for the pending round
 --     same_heard, hears_now         what was heard on the links;  request_now: and asked in the sessions
 --     lowest_next                   lowest doesn't fall
 --     links_go_on, left_grows       no link is lost or falls back, and who left has left for good
-use Rattle.std.proofs.Common.{◌≡◌, ℕ, ◌+◌, ◌<◌, ◌≤◌, true, false, ◌&&◌, nat_lt, List, [], ◌∷◌, ◌++◌, refl, sym, ap, subst, ◌∙◌, inl, inr, arith}
+use Rattle.std.proofs.Common.{◌≡◌, ℕ, ◌+◌, ◌<◌, ◌≤◌, true, false, ◌&&◌, nat_lt, List, [], ◌∷◌, ◌++◌, length, refl, sym, ap, subst, ◌∙◌, inl, inr, arith}
 use Rattle.std.specs.Prelude.{Option, Some, None, IfSome, IsTrue, is_some, ◌==◌}
 use Rattle.std.specs.Option.{option_len, option_map_or, unwrap_or}
 use Rattle.std.specs.FinMap as table
@@ -35,6 +36,8 @@ use Rattle.cc_ops.specs.Rounds.{first_round, line_behind}
 use Rattle.cc_ops.specs.WaitingLaws.{written_fits}
 use Rattle.cc_ops.specs.declared.pending.Asked.{Asked}
 use Rattle.cc_messages.specs.Ranges.{Range}
+use Rattle.cc_messages.specs.Shares.{IsAskShare}
+use Rattle.cc_messages.specs.ShareLaws.{is_share}
 use Rattle.cc_links.specs.Links.{Link, Links, new_link, with_row, add, add_absent, add_all, hear, ack, lapse, heard_from, LinksWithin}
 use Rattle.cc_links.specs.LinkLaws.{LinksGoOn, go_same, go_then, add_all_goes, hear_goes, ack_goes, lapse_goes, go_within, lowest_within}
 use Rattle.cc_links.specs.LinkLaws.{lowest_grows, links_more_posts, add_all_links, hear_links, ack_links, lapse_links, contains-add_all, hear_len}
@@ -45,13 +48,13 @@ use Rattle.cc_node.specs.Core.{Core, quorum, ids_of, asked_of, churned, tells, c
 use Rattle.cc_node.specs.Refusals.{decides}
 use Rattle.cc_node.specs.Node.{Node, step}
 use Rattle.cc_ops.specs.Stages.{HasRoom}
-use Rattle.cc_node.specs.Lawful.{CountsWithin, SessionsWithin, KeepsAnswers, IsLawfulCore, IsLawfulNode}
+use Rattle.cc_node.specs.Lawful.{IsBeside, IsRoundOf, IsLineOf, CountsWithin, SessionsWithin, KeepsAnswers, IsLawfulCore, IsLawfulNode}
 use Rattle.cc_node.proofs.KnownLaws.{same_number, AllListed, tail_listed, among_more, KeepsChanges, enter_changes}
 use Rattle.cc_node.proofs.KnownLaws.{leave_changes, KeepsChurn, members_fit, message_churn, left_stays, KeepsOps, ops_more, message_ops, ask_ops}
 use Rattle.cc_node.proofs.KnownLaws.{all_last, none_waits, none_left}
 use Rattle.cc_node.proofs.KeptLaws.{step_posts, posted, round_answers, last_answers}
 use Rattle.cc_node.proofs.Lists.{inserted_here, inserted_beside}
-use Rattle.cc_node.proofs.RefusalLaws.{Fits, takes_delivery, takes_ack, takes_ask, takes_retire, takes_lapse, takes_skip, takes_any, stays_within}
+use Rattle.cc_node.proofs.RefusalLaws.{Fits, takes_delivery, takes_ack, takes_ask, takes_retire, takes_lapse, takes_skip, takes_share, takes_any, stays_within}
 use Rattle.cc_node.proofs.RefusalLaws.{passes_within, none_overruns}
 use Rattle.cc_node.proofs.ToldLaws.{told_churn, left_told, one_echo, echoes_told, anew_last, anew_unanswered, anew_tag, anew_ops, snapshot_tag}
 use Rattle.cc_node.proofs.ToldLaws.{snapshot_echoes, tells_snapshot, anew_snapshot}
@@ -321,6 +324,47 @@ ask_core c s r k d h =
     (all_insert (λ _ last. (0 < last) × (last ≤ counter_limit)) c.sessions s r h.sessions (request_fits c s r k d h))
     (begin_fits c.sessions s r takes.sessions h.session_count) room (counts_next c e takes.fits h.counts)
 
+-- ---- another share
+
+share_fits : (c : Core) (share : ℕ) → decides c (event.Share share) ≡ None → IsAskShare share
+unfolding next
+share_fits c share d = let e = event.Share share in is_share share (none_overruns c (next c e) e (takes_share c share d).fits.counts).row
+
+-- a round of no more asks than the share has fewer beside its first one
+beside_few : (phase : ops.Phase) (others : List Asked) (share : ℕ) → IsBeside phase others → 1 ≤ share
+    → length (ops.asked_in phase ++ others) ≤ share → length others < share
+beside_few ops.Idle others share alike some few = omega (arith, ap length alike, some)
+beside_few (ops.Storing p) others share alike some few = omega (arith, few)
+beside_few (ops.Querying p) others share alike some few = omega (arith, few)
+beside_few (ops.StoringBack p seen) others share alike some few = omega (arith, few)
+
+pub others_fit : (c : Core) (share : ℕ) → decides c (event.Share share) ≡ None → IsLawfulCore c → length c.ops.others < share
+others_fit c share d h =
+    beside_few c.ops.phase c.ops.others share h.line.round.alike (share_fits c share d).some (ltb-false _ _ (takes_share c share d).free)
+
+share_core : (c : Core) (share : ℕ) → decides c (event.Share share) ≡ None → IsLawfulCore c → IsLawfulCore (next c (event.Share share))
+unfolding next
+share_core c share d h =
+    let takes = takes_share c share d in
+    let is = share_fits c share d in
+    let round : IsRoundOf c.sessions share c.ops.phase c.ops.others = record {
+      some = is.some;
+      most = is.most;
+      few = others_fit c share d h;
+      alike = h.line.round.alike;
+      last = h.line.round.last;
+    } in
+    let line : IsLineOf c.sessions (ops.with_share share c.ops) = record {
+      behind = h.line.behind;
+      few = h.line.few;
+      apart = h.line.apart;
+      last = h.line.last;
+      round = round;
+    } in
+    core_with c c.churn (ops.with_share share c.ops) 0 c.links c.sessions h (λ q there. there)
+    (record { changes = changes_more c c.links (λ q there. there) h; need = h.need }) (record { view = h.view; phase = h.phase; line = line })
+    h.link_count h.links h.sessions h.session_count h.set (counts_next c (event.Share share) takes.fits h.counts)
+
 pub next_core : (c : Core) (e : Event) → decides c e ≡ None → IsLawfulCore c → IsLawfulCore (next c e)
 unfolding next
 next_core c event.Enter d h =
@@ -367,6 +411,7 @@ next_core c (event.Skip from posts) d h =
     linked_core c c.churn.changes 0 ls h more (changes_more c ls more h) few
     (hear_links c.posts from posts.last added (skip_fits c from posts d) (add_all_links c.posts (from ∷ []) c.links h.links))
     (counts_next c (event.Skip from posts) takes.fits h.counts)
+next_core c (event.Share share) d h = share_core c share d h
 
 -- ---- the node
 

@@ -1,5 +1,5 @@
 -- What is known of an event that isn't refused.
---     takes_delivery, takes_ack, takes_ask, takes_retire, takes_lapse, takes_skip     what each check that passed says
+--     takes_delivery, takes_ack, takes_ask, takes_retire, takes_lapse, takes_skip, takes_share     what each check that passed says
 --     takes_any                                no post is too many, and no counter goes past its limit
 --     stays_within, none_overruns              a counter that isn't spent stays within its limit
 use Rattle.std.proofs.Common.{◌≡◌, ℕ, ◌+◌, ◌-◌, ◌≤◌, Bool, true, false, not, ◌&&◌, ◌||◌, nat_lt, nat_le, List, [], ◌∷◌, length, refl, inl, inr, arith}
@@ -21,7 +21,7 @@ use Rattle.cc_messages.specs.declared.refusal.Refusal.{Refusal}
 use Rattle.cc_messages.specs.declared.refusal.Refusal.TheVariants as refusal
 use Rattle.cc_messages.specs.Refusals.{first_of}
 use Rattle.cc_ops.specs.Commands.{finds_no_room}
-use Rattle.cc_ops.specs.Ops.{is_idle, unanswered, mine_at_last}
+use Rattle.cc_ops.specs.Ops.{is_idle, pending, unanswered, mine_at_last}
 use Rattle.cc_ops.specs.Waiting.{line_limit, has_session}
 use Rattle.cc_churn.specs.Churn.{has_left}
 use Rattle.cc_links.specs.Links.{heard_from, awaits_ack, awaits_any}
@@ -78,6 +78,11 @@ pub record TakesSkip (c : Core) (from : ℕ) (posts : Range) : Type 0 where
   pub next : skips c from posts.first ≡ false
   pub nodes : nat_lt known_limit (table.len (with_links (from ∷ []) c).links) ≡ false
   pub fits : Fits c (event.Skip from posts)
+
+pub record TakesShare (c : Core) (share : ℕ) : Type 0 where
+  pub other : (c.ops.share == share) ≡ false
+  pub free : nat_lt share (length (pending c.ops)) ≡ false
+  pub fits : Fits c (event.Share share)
 
 -- where neither a full outbox nor a spent counter is a reason
 fits_last : (c : Core) (e : Event) → AllByRecursion (λ r. r ≡ None) (outbox_full c e ∷ spent c e ∷ []) → Fits c e
@@ -145,6 +150,16 @@ takes_skip c from posts h =
       fits = record { posts = refl; counts = fails refusal.Spent _ all.1.1.1.0 };
     }
 
+pub takes_share : (c : Core) (share : ℕ) → decides c (event.Share share) ≡ None → TakesShare c share
+unfolding decides decides_within
+takes_share c share h =
+    let all = (all_none (reasons line_limit c (event.Share share)) h).1.1 in
+    record {
+      other = fails refusal.NothingToAck _ all.0;
+      free = fails refusal.Busy _ all.1.0;
+      fits = record { posts = refl; counts = fails refusal.Spent _ all.1.1.0 };
+    }
+
 pub takes_any : (c : Core) (e : Event) → decides c e ≡ None → Fits c e
 unfolding decides decides_within
 takes_any c event.Enter h = fits_last c event.Enter (all_none (reasons line_limit c event.Enter) h).1.1
@@ -156,6 +171,7 @@ takes_any c (event.Retire q) h = (takes_retire c q h).fits
 takes_any c (event.Lapse q) h = (takes_lapse c q h).fits
 takes_any c event.Snapshot h = fits_last c event.Snapshot (all_none (reasons line_limit c event.Snapshot) h).1.1.1
 takes_any c (event.Skip from posts) h = (takes_skip c from posts h).fits
+takes_any c (event.Share share) h = (takes_share c share h).fits
 
 -- a counter that may not pass its limit
 pub stays_within : (limit before after : ℕ) → ((before == limit) && nat_lt before after) ≡ false → before ≤ limit → after ≤ before + 1 → after ≤ limit

@@ -1,13 +1,19 @@
 -- How many asks begin with an event and are answered, and that each that waits comes on.
 --     begun_few, replies_few     no more than the share
---     share_stays, share_along   which no event changes
---     one_by_one                 at a share of 1 all asks begin in the order in which they were accepted
+--     share_told, told_along     which no event but a Share changes
+--     next_share, share_again    what a Share makes of the core, and that a second one is refused
+--     one_by_one                 where the share is 1 all asks begin in the order in which they were accepted
 --     comes_on, stays_there      with each round that is answered an ask that waits begins, or fewer stand before it
-use Rattle.std.proofs.Common.{◌≡◌, ℕ, ◌<◌, ◌≤◌, Bool, List, [], ◌∷◌, ◌++◌, length, length-append, refl, sym, ap, subst, ◌∙◌, inl, inr, arith}
+use Rattle.std.proofs.Common.{◌≡◌, ℕ, ◌+◌, ◌<◌, ◌≤◌, Bool, List, [], ◌∷◌, ◌++◌, length, length-append, refl, sym, ap, subst, ◌∙◌, add-zero, inl, inr, arith}
+use Rattle.std.specs.Prelude.{Option, Some, None}
+use Rattle.std.specs.Bool.{then_some}
 use Rattle.std.proofs.lemmas.Bool.{cond_both}
 use Rattle.std.proofs.lemmas.List.{append_assoc, append-nil}
 use Rattle.cc_messages.specs.declared.event.Event.{Event}
 use Rattle.cc_messages.specs.declared.event.Event.TheVariants as event
+use Rattle.cc_messages.specs.declared.refusal.Refusal.{Refusal}
+use Rattle.cc_messages.specs.declared.refusal.Refusal.TheVariants as refusal
+use Rattle.cc_messages.specs.Refusals.{first_of}
 use Rattle.cc_ops.specs.declared.pending.Asked.{Asked}
 use Rattle.cc_ops.specs.declared.pending.Reply.{Reply}
 use Rattle.cc_ops.specs.Commands.{is_writing}
@@ -18,9 +24,12 @@ use Rattle.cc_ops.specs.Rounds.{first_round, line_behind, IsAt, ComesOn}
 use Rattle.cc_ops.specs.RoundLaws.{one_round, first_few, round_fair, at_more}
 use Rattle.cc_node.specs.Core.{Core, quorum, asked_of, asks_anew, anew_if, begun, replies, next}
 use Rattle.cc_node.specs.Node.{Node, step, after, IsLawful}
+use Rattle.cc_node.specs.Refusals.{decides, decides_within, same_share, busy_beyond, spent}
+use Rattle.cc_node.specs.Rounds.{share_after, share_along, IsShareAlong}
 use Rattle.cc_node.specs.Writes.{asked_by, asked_along, begun_along}
 use Rattle.cc_node.specs.Lawful.{IsLawfulCore, IsLawfulNode}
-use Rattle.cc_node.proofs.KnownLaws.{none_waits}
+use Rattle.cc_node.proofs.Deciding.{of_entered, of_share}
+use Rattle.cc_node.proofs.KnownLaws.{none_waits, same_number}
 use Rattle.cc_node.proofs.LawfulLaws.{step_lawful}
 use Rattle.cc_node.proofs.ToldLaws.{anew_line}
 
@@ -57,7 +66,7 @@ replies_few c (event.Deliver from n m) few =
     round_few c.ops (ops.after_message c.me (quorum c) m c.ops) (ops.replies_of c.me m c.ops) (message_answers c.me (quorum c) m c.ops) few
 replies_few c _ few = omega arith
 
--- ---- the share stays
+-- ---- what changes the share
 
 anew_share : (b : Bool) (q : ℕ) (s : Ops) → (anew_if b q s).share ≡ s.share
 anew_share b q s = cond_both b (ops.anew q s) s (λ (t : Ops). t.share ≡ s.share) (λ _. refl) (λ _. refl)
@@ -67,20 +76,44 @@ begun_share me quorum a s =
     cond_both (is_writing a.command) (ops.next_round (Storing (ops.round_of quorum a)) (ops.with_own_row me (ops.with_written (a ∷ []) s)))
     (ops.next_round (Querying (ops.round_of quorum a)) s) (λ (t : Ops). t.share ≡ s.share) (λ _. refl) (λ _. refl)
 
-pub share_stays : (c : Core) (e : Event) → (next c e).ops.share ≡ c.ops.share
+pub share_told : (c : Core) (e : Event) → (next c e).ops.share ≡ share_after c.ops.share e
 unfolding next
-share_stays c (event.Deliver from n m) =
+share_told c (event.Deliver from n m) =
     anew_share (asks_anew c from n m) _ (ops.after_message c.me (quorum c) m c.ops) ∙ message_share c.me (quorum c) m c.ops
-share_stays c (event.Ask s r k) =
+share_told c (event.Ask s r k) =
     let a = asked_of s r k in
     cond_both (ops.is_idle c.ops.phase) (ops.with_begun c.me (quorum c) a c.ops) (record c.ops { line = c.ops.line ++ a ∷ [] })
     (λ (t : Ops). t.share ≡ c.ops.share) (λ _. begun_share c.me (quorum c) a c.ops) (λ _. refl)
-share_stays c _ = refl
+share_told c _ = refl
 
-pub share_along : (n : Node) (es : List Event) → (after n es).core.ops.share ≡ n.core.ops.share
+pub told_along : (n : Node) (es : List Event) → (after n es).core.ops.share ≡ share_along n.core.ops.share es
 unfolding step
-share_along n [] = refl
-share_along n (e ∷ es) = share_along (step n e) es ∙ share_stays n.core e
+told_along n [] = refl
+told_along n (e ∷ es) = told_along (step n e) es ∙ ap (λ (share : ℕ). share_along share es) (share_told n.core e)
+
+pub next_share : (c : Core) (share : ℕ) → next c (event.Share share) ≡ record c { ops = ops.with_share share c.ops }
+unfolding next
+next_share c share = λ i. record c { ops = ops.with_share share c.ops; posts = add-zero c.posts i }
+
+pub share_last : (c : Core) (first second : ℕ) → next (next c (event.Share first)) (event.Share second) ≡ next c (event.Share second)
+unfolding next
+share_last c first second = λ i. record c { ops = ops.with_share second c.ops; posts = add-zero (c.posts + 0) i }
+
+-- where the first reasons don't hold, the others decide
+first_behind : (xs ys zs : List (Option Refusal)) → first_of (xs ++ ys) ≡ None → first_of (xs ++ zs) ≡ first_of zs
+first_behind [] ys zs h = refl
+first_behind (None ∷ xs) ys zs h = first_behind xs ys zs h
+first_behind (Some r ∷ xs) ys zs h = cc
+
+pub share_again : (c : Core) (share : ℕ) → decides c (event.Share share) ≡ None
+    → decides (next c (event.Share share)) (event.Share share) ≡ Some refusal.NothingToAck
+unfolding next decides decides_within
+share_again c share none =
+    let d = next c (event.Share share) in
+    let e = event.Share share in
+    let rest = busy_beyond share d ∷ spent d e ∷ [] in
+    first_behind (of_entered c) (of_share share c ++ spent c e ∷ []) (same_share share d ∷ rest) none
+    ∙ ap (λ (b : Bool). first_of (then_some b refusal.NothingToAck ∷ rest)) (same_number share)
 
 -- ---- at a share of 1
 
@@ -98,7 +131,7 @@ one_in_line c (event.Deliver from n m) one h =
 one_in_line c (event.Ask s r k) one h = ask_line c.me (quorum c) (asked_of s r k) c.ops (λ idle. none_waits c.ops.phase c.ops.line idle h.line.behind)
 one_in_line c _ one h = append-nil c.ops.line
 
-pub one_by_one : (n : Node) (es : List Event) → n.core.ops.share ≡ 1 → IsLawfulNode n → IsLawful n es
+pub one_by_one : (n : Node) (es : List Event) → IsShareAlong 1 n es → IsLawfulNode n → IsLawful n es
     → n.core.ops.line ++ asked_along es ≡ begun_along n es ++ (after n es).core.ops.line
 unfolding step
 one_by_one n [] one h d = append-nil n.core.ops.line
@@ -106,9 +139,9 @@ one_by_one n (e ∷ es) one h d =
     let b = begun n.core e in
     let line = (next n.core e).ops.line in
     sym (append_assoc n.core.ops.line (asked_by e) (asked_along es))
-    ∙ ap (λ (l : List Asked). l ++ asked_along es) (one_in_line n.core e one h.core)
+    ∙ ap (λ (l : List Asked). l ++ asked_along es) (one_in_line n.core e one.0 h.core)
     ∙ append_assoc b line (asked_along es)
-    ∙ ap (λ (l : List Asked). b ++ l) (one_by_one (step n e) es (share_stays n.core e ∙ one) (step_lawful n e d.0 h) d.1)
+    ∙ ap (λ (l : List Asked). b ++ l) (one_by_one (step n e) es one.1 (step_lawful n e d.0 h) d.1)
     ∙ sym (append_assoc b (begun_along (step n e) es) (after (step n e) es).core.ops.line)
 
 -- ---- an ask that waits comes on

@@ -25,7 +25,7 @@ use Rattle.cc_node.specs.Refusals.{nothing_to_ack, too_many_nodes, nothing_to_la
 use Rattle.cc_node.specs.OneAtATime.{acked_alone, other_line, waiting, ops_alone, quorum_told, phase_alone, answer_alone, next_alone, post_alone, busy_alone}
 use Rattle.cc_node.specs.OneAtATime.{set_full_alone, outbox_full_alone, spent_alone, decides_alone}
 use Rattle.cc_node.proofs.AloneLaws.{behind}
-use Rattle.cc_node.proofs.Deciding.{of_enter, of_entered, of_member, of_retire, of_number, of_range, of_request}
+use Rattle.cc_node.proofs.Deciding.{of_enter, of_entered, of_member, of_retire, of_number, of_range, of_request, of_share}
 
 either_other : (l : List Asked) (b : Bool) (s t : Ops) → (if b then other_line l s else other_line l t) ≡ other_line l (if b then s else t)
 either_other l true s t = refl
@@ -127,3 +127,4 @@ decides_unaware c l (event.Lapse q) = behind (of_member c ++ nothing_to_lapse c 
 decides_unaware c l event.Snapshot = behind (of_member c) _ _ (both_unaware c l event.Snapshot)
 decides_unaware c l (event.Skip from posts) =
     behind (of_entered c ++ of_range c from posts ++ too_many_nodes c (from ∷ []) ∷ []) _ _ (spent_unaware c l (event.Skip from posts))
+decides_unaware c l (event.Share share) = behind (of_entered c ++ of_share share c) _ _ (spent_unaware c l (event.Share share))

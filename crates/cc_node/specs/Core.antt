@@ -144,6 +144,7 @@ handled c (event.Retire q) = record (with_links (q ∷ []) c) { churn = churn.wi
 handled c (event.Lapse q) = record c { links = links.lapse c.posts q c.links }
 handled c event.Snapshot = c
 handled c (event.Skip from posts) = record c { links = links.hear from posts.last (links.add c.posts from c.links) }
+handled c (event.Share share) = record c { ops = ops.with_share share c.ops }
 
 -- what a message is answered with
 abbrev pub post_to : Message → Core → Core → Option Message

@@ -24,7 +24,7 @@ use Rattle.cc_links.specs.Links.{Links, LinksWithin}
 use Rattle.cc_sessions.specs.Sessions.{Requests}
 use Rattle.cc_views.specs.Limits.{counter_limit, known_limit, session_limit}
 use Rattle.cc_node.specs.Core.{Core, lowest}
-use Rattle.cc_node.specs.Rounds.{share_limit}
+use Rattle.cc_messages.specs.Shares.{share_limit}
 use Rattle.cc_outbox.specs.OutboxLaws.{KeepsPosts}
 use Rattle.cc_node.specs.Node.{Node}
 

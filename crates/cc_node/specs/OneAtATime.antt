@@ -29,14 +29,14 @@ use Rattle.cc_churn.specs.Churn as churn
 use Rattle.cc_ops.specs.declared.pending.Asked.{Asked}
 use Rattle.cc_ops.specs.Commands.{finds_no_room}
 use Rattle.cc_ops.specs.Ops.{Ops, Phase, Idle, Storing, Querying, StoringBack, is_idle, is_last, counted, merged, is_own, with_begun, after_reply}
-use Rattle.cc_ops.specs.Ops.{first_post, ends_query}
+use Rattle.cc_ops.specs.Ops.{first_post, ends_query, with_share}
 use Rattle.cc_links.specs.Links as links
 use Rattle.cc_outbox.specs.Outbox.{post_limit, trim}
 use Rattle.cc_node.specs.Core.{Core, asked_of, ids_of, with_links, links_heard, churn_told, join_told, asks_anew, anew_if, question_if}
 use Rattle.cc_node.specs.Core.{quorum, ack, replies, send_ack, send_post, send_replies, lowest}
 use Rattle.cc_node.specs.Node.{Node, keep, add, forget_asked}
 use Rattle.cc_node.specs.Refusals.{left, has_gone, not_entered, already_entered, not_joined, old, gap, gap_before, nothing_to_ack, too_many_nodes}
-use Rattle.cc_node.specs.Refusals.{too_many_sessions, repeat, stale, skip, nothing_to_lapse, any_overruns}
+use Rattle.cc_node.specs.Refusals.{too_many_sessions, repeat, stale, skip, nothing_to_lapse, same_share, busy_beyond, any_overruns}
 
 -- ---- operations
 
@@ -93,6 +93,7 @@ handled_alone c (event.Retire q) = record (with_links (q ∷ []) c) { churn = ch
 handled_alone c (event.Lapse q) = record c { links = links.lapse c.posts q c.links }
 handled_alone c event.Snapshot = c
 handled_alone c (event.Skip from posts) = record c { links = links.hear from posts.last (links.add c.posts from c.links) }
+handled_alone c (event.Share share) = record c { ops = with_share share c.ops }
 
 abbrev pub post_to_alone : Message → Core → Core → Option Message
 post_to_alone m before after =
@@ -146,6 +147,8 @@ reasons_alone c event.Snapshot =
     left c ∷ not_entered c ∷ not_joined c ∷ outbox_full_alone c event.Snapshot ∷ spent_alone c event.Snapshot ∷ []
 reasons_alone c (event.Skip from posts) =
     left c ∷ not_entered c ∷ old c from posts.last ∷ gap_before c from posts.first ∷ too_many_nodes c (from ∷ []) ∷ spent_alone c (event.Skip from posts) ∷ []
+reasons_alone c (event.Share share) =
+    left c ∷ not_entered c ∷ same_share share c ∷ busy_beyond share c ∷ spent_alone c (event.Share share) ∷ []
 
 unfoldable pub decides_alone : Core → Event → Option Refusal
 decides_alone c e = first_of (reasons_alone c e)

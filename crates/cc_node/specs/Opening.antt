@@ -13,7 +13,7 @@ use Rattle.cc_ops.specs.Ops.{nothing_done}
 use Rattle.cc_outbox.specs.Outbox.{starting_after}
 use Rattle.cc_links.specs.Links.{add_all}
 use Rattle.cc_node.specs.Node.{Node}
-use Rattle.cc_node.specs.Rounds.{share_limit}
+use Rattle.cc_messages.specs.Shares.{share_limit}
 use Rattle.cc_changes.specs.Need.{IsShare}
 use Rattle.cc_node.specs.declared.opening.Opening.{Opening as Told}
 

@@ -9,7 +9,7 @@ use Rattle.cc_views.specs.Limits.{known_limit}
 use Rattle.cc_views.specs.NatSets as set
 use Rattle.cc_changes.specs.Need.{IsShare}
 use Rattle.cc_node.specs.Opening.{Opening, ids_of}
-use Rattle.cc_node.specs.Rounds.{share_limit}
+use Rattle.cc_messages.specs.Shares.{share_limit}
 use Rattle.cc_node.specs.declared.opening.OpeningRule.{OpeningRule}
 use Rattle.cc_node.specs.declared.opening.OpeningRule.TheVariants as rule
 use Rattle.cc_node.specs.declared.opening.Fresh.{Fresh}

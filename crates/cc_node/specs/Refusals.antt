@@ -9,6 +9,7 @@ use Rattle.cc_views.specs.Limits.{counter_limit, known_limit, overruns}
 use Rattle.cc_messages.specs.declared.command.Command.{Command}
 use Rattle.cc_messages.specs.declared.message.Message.{Message}
 use Rattle.cc_messages.specs.Messages.{is_snapshot}
+use Rattle.cc_messages.specs.Shares.{is_no_share}
 use Rattle.cc_messages.specs.declared.event.Event.{Event}
 use Rattle.cc_messages.specs.declared.event.Event.TheVariants as event
 use Rattle.cc_messages.specs.declared.refusal.Refusal.{Refusal}
@@ -79,6 +80,12 @@ skip c s r = then_some (sessions.is_skip c.sessions s r) (refusal.Skip (last_req
 abbrev pub busy : ℕ → Core → ℕ → Option Refusal
 busy limit c s = pending.busy limit s c.ops
 
+abbrev pub same_share : ℕ → Core → Option Refusal
+same_share share c = pending.same_share share c.ops
+
+abbrev pub busy_beyond : ℕ → Core → Option Refusal
+busy_beyond share c = pending.busy_beyond share c.ops
+
 abbrev pub set_full : Core → Command → Option Refusal
 set_full c command = pending.set_full command c.ops
 
@@ -86,11 +93,13 @@ set_full c command = pending.set_full command c.ops
 abbrev pub outbox_full : Core → Event → Option Refusal
 outbox_full c e = then_some (is_some (post c e) && ((c.posts - lowest c) == post_limit)) refusal.OutboxFull
 
--- of the tables only the row that the event is about can change; what is heard may rise by more than one
+-- of the tables only the row that the event is about can change; what is heard may rise by more than one. What isn't a share is no
+-- event of the format, so that no node is told it
 abbrev pub row_overruns : Core → Core → Event → Bool
 row_overruns c d (event.Deliver from n m) = nat_lt counter_limit (links.heard_from from d.links)
 row_overruns c d (event.Skip from posts) = nat_lt counter_limit (links.heard_from from d.links)
 row_overruns c d (event.Ask s r command) = overruns (last_request c.sessions s) (last_request d.sessions s)
+row_overruns c d (event.Share share) = is_no_share d.ops.share
 row_overruns c d _ = false
 
 abbrev pub any_overruns : Core → Core → Event → Bool
@@ -118,6 +127,7 @@ reasons limit c (event.Lapse q) = left c ∷ not_entered c ∷ not_joined c ∷ 
 reasons limit c event.Snapshot = left c ∷ not_entered c ∷ not_joined c ∷ outbox_full c event.Snapshot ∷ spent c event.Snapshot ∷ []
 reasons limit c (event.Skip from posts) =
     left c ∷ not_entered c ∷ old c from posts.last ∷ gap_before c from posts.first ∷ too_many_nodes c (from ∷ []) ∷ spent c (event.Skip from posts) ∷ []
+reasons limit c (event.Share share) = left c ∷ not_entered c ∷ same_share share c ∷ busy_beyond share c ∷ spent c (event.Share share) ∷ []
 
 -- none, or the reason for which an event is refused, where no more than so many asks wait
 unfoldable pub decides_within : ℕ → Core → Event → Option Refusal

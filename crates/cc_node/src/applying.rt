@@ -13,7 +13,7 @@ use crate::made::{LinkAck, Made};
 use crate::named_nodes::link_named;
 use crate::node_core::Core;
 use crate::told::{ask_anew, count_told};
-use cc_messages::{Command, Event, Message, PostRange, Refusal};
+use cc_messages::{Command, Event, Message, PostRange, Refusal, Share};
 use cc_ops::Asked;
 use cc_views::{NoMemory, NodeId};
 use std::alloc::Global;
@@ -33,7 +33,10 @@ impl Core {
                 number,
                 message,
             } => self.made_of_delivery(alloc, *from, *number, message),
-            Event::Acked { .. } | Event::Retire { .. } | Event::Lapse { .. } => Ok(Made::nothing()),
+            Event::Acked { .. }
+            | Event::Retire { .. }
+            | Event::Lapse { .. }
+            | Event::Share { .. } => Ok(Made::nothing()),
             Event::Snapshot => self.made_of_snapshot(alloc),
             Event::Skip { from, posts } => Ok(Made::acknowledged(*from, posts.last())),
             Event::Ask {
@@ -159,6 +162,7 @@ impl Core {
             Event::Lapse { node } => self.lapse(*node),
             Event::Snapshot => self.snapshot(),
             Event::Skip { from, posts } => self.skip(*from, *posts),
+            Event::Share { share } => self.change_share(*share),
         }
     }
 
@@ -247,5 +251,12 @@ impl Core {
         let made = self.posts;
         self.links.add(from, made);
         self.links.hear(from, posts.last());
+    }
+
+    fn change_share(&mut self, share: Share)
+        requires { decides self.old (event.Share share) ≡ None }
+        ensures { self.new ≡ machine.next self.old (event.Share share) }
+    {
+        self.ops.set_share(share);
     }
 }

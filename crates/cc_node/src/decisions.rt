@@ -18,7 +18,7 @@ ghost use Rattle.cc_node.specs.Refusals.{decides, decided};
 use crate::named_nodes::mark_named;
 use crate::node_core::Core;
 use cc_links::{KnownIds, Links};
-use cc_messages::{Command, Event, Message, PostRange, Refusal};
+use cc_messages::{Command, Event, Message, PostRange, Refusal, Share};
 use cc_outbox::Outbox;
 use cc_sessions::Checked;
 use cc_views::{COUNTER_LIMIT, NodeId};
@@ -48,6 +48,7 @@ impl Core {
             Event::Lapse { node } => self.decide_lapse(*node),
             Event::Snapshot => self.decide_snapshot(),
             Event::Skip { from, posts } => self.decide_skip(*from, *posts),
+            Event::Share { share } => self.decide_share(*share),
         }
     }
 
@@ -328,6 +329,13 @@ impl Core {
             return Err(Refusal::Spent);
         }
         Ok(())
+    }
+
+    fn decide_share(&self, share: Share) -> Result<(), Refusal>
+        ensures { result ≡ decided (decides self.now (event.Share share)) }
+    {
+        self.churn.decide_delivery(self.me)?;
+        self.ops.decide_share(share)
     }
 
     // Why the posts aren't the next ones of their link, if they aren't. Some of them may have been heard.

@@ -15,7 +15,9 @@ ghost use Rattle.cc_messages.specs.declared.message.Message.{Message};
 ghost use Rattle.cc_messages.specs.declared.event.Event.{Event};
 ghost use Rattle.cc_messages.specs.declared.event.Event.TheVariants as event;
 ghost use Rattle.cc_messages.specs.declared.message.Message.TheVariants as message;
-ghost use Rattle.cc_ops.specs.Ops.{anew, merged, after_message};
+ghost use Rattle.cc_messages.specs.declared.refusal.Refusal.TheVariants as refusal;
+ghost use Rattle.cc_messages.specs.Shares.{IsAskShare};
+ghost use Rattle.cc_ops.specs.Ops.{anew, merged, after_message, with_share};
 ghost use Rattle.cc_messages.specs.declared.output.Output.{Output};
 ghost use Rattle.cc_ops.specs.declared.pending.Asked.{Asked};
 ghost use Rattle.cc_ops.specs.Rounds.{first_round, line_behind, of_kind, IsAt, ComesOn};
@@ -25,7 +27,8 @@ ghost use Rattle.cc_node.specs.Skipping.{single, numbers, skipped_in_turn, AreKn
 ghost use Rattle.cc_node.specs.Node.{Node, step, after, line, HasOutput, MayBeOut, IsLawful, IsLawfulWithin};
 ghost use Rattle.cc_node.specs.OneAtATime.{waiting, decides_alone, next_alone, post_alone, step_alone, after_alone};
 ghost use Rattle.cc_node.specs.OneAtATime.{line_alone, IsLawfulAlone};
-ghost use Rattle.cc_node.specs.Refusals.{decides, decides_within, row_overruns};
+ghost use Rattle.cc_node.specs.Refusals.{decides, decides_within, row_overruns, spent};
+ghost use Rattle.cc_node.specs.Rounds.{share_along, IsShareAlong};
 ghost use Rattle.cc_node.specs.Lawful.{IsLawfulCore, IsLawfulNode};
 ghost use Rattle.cc_node.specs.Opening.{Opening, IsOpening, fresh};
 ghost use Rattle.cc_node.specs.Lines.{Follows};
@@ -55,26 +58,39 @@ pub fn own_number_counts_writes()
 {}
 
 /// Asks of a kind, which write or read, begin in the order in which they were accepted: those that waited at the start
-/// and those that were accepted since are those that began since and those that wait still. At a share of 1 so do all
-/// asks.
+/// and those that were accepted since are those that began since and those that wait still. Where the share is 1 all
+/// along, so do all asks.
 pub fn asks_begin_in_order()
     ensures kinds { (writes : Bool) (n : Node) (es : List Event) → IsLawfulNode n → IsLawful n es
         → of_kind writes (n.core.ops.line ++ asked_along es)
         ≡ of_kind writes (begun_along n es ++ (after n es).core.ops.line) }
-    ensures one_by_one { (n : Node) (es : List Event) → n.core.ops.share ≡ 1 → IsLawfulNode n → IsLawful n es
+    ensures one_by_one { (n : Node) (es : List Event) → IsShareAlong 1 n es → IsLawfulNode n → IsLawful n es
         → n.core.ops.line ++ asked_along es ≡ begun_along n es ++ (after n es).core.ops.line }
 {}
 
-/// No more asks begin with an event than the share, nor are more answered, and no event changes the share. At a share
-/// of 1 the first round of a line is its first ask alone.
+/// No more asks begin with an event than the share, nor are more answered, and no event but a Share changes the share.
+/// At a share of 1 the first round of a line is its first ask alone.
 pub fn share_one()
     ensures begun { (c : Core) (e : Event) → 1 ≤ c.ops.share → length (begun c e) ≤ c.ops.share }
     ensures answered { (c : Core) (e : Event) → IsLawfulCore c → length (replies c e) ≤ c.ops.share }
-    ensures share { (n : Node) (es : List Event) → (after n es).core.ops.share ≡ n.core.ops.share }
+    ensures share { (n : Node) (es : List Event) → (after n es).core.ops.share ≡ share_along n.core.ops.share es }
     ensures one_begun { (c : Core) (e : Event) → c.ops.share ≡ 1 → length (begun c e) ≤ 1 }
     ensures one_answered { (c : Core) (e : Event) → IsLawfulCore c → c.ops.share ≡ 1 → length (replies c e) ≤ 1 }
     ensures first { (a : Asked) (line : List Asked) → first_round 1 (a ∷ line) ≡ a ∷ [] }
     ensures behind { (a : Asked) (line : List Asked) → line_behind 1 (a ∷ line) ≡ line }
+{}
+
+/// A Share changes nothing but the share: it begins nothing, and puts nothing out. Of two that follow one another the
+/// second counts; where it tells the same it is refused as NothingToAck. No share from 1 to 32 is refused as Spent.
+pub fn share_changes_alone()
+    ensures leaves { (c : Core) (share : ℕ) → next c (event.Share share) ≡ record c { ops = with_share share c.ops } }
+    ensures begins { (c : Core) (share : ℕ) → begun c (event.Share share) ≡ [] }
+    ensures puts { (c : Core) (share : ℕ) → outputs c (event.Share share) ≡ [] }
+    ensures last { (c : Core) (first second : ℕ) → next (next c (event.Share first)) (event.Share second)
+        ≡ next c (event.Share second) }
+    ensures again { (c : Core) (share : ℕ) → decides c (event.Share share) ≡ None
+        → decides (next c (event.Share share)) (event.Share share) ≡ Some refusal.NothingToAck }
+    ensures spent { (c : Core) (share : ℕ) → IsAskShare share → spent c (event.Share share) ≡ None }
 {}
 
 /// No ask is passed over for ever: with each event that answers clients, an ask that waits begins, or fewer stand

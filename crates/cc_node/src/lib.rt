@@ -17,8 +17,8 @@ pub use core_parts::CoreParts;
 pub use laws::{
     answers_to_others_are_skipped, asks_anew_alone, asks_begin_in_order,
     lapse_is_an_acknowledgement, lawful_kept, lines_add_nothing, lines_may_grow, no_output_twice,
-    others_stay, own_number_counts_writes, ranges_are_skipped_in_turn, rounds_are_fair, share_one,
-    standing_made, view_only_grows,
+    others_stay, own_number_counts_writes, ranges_are_skipped_in_turn, rounds_are_fair,
+    share_changes_alone, share_one, standing_made, view_only_grows,
 };
 pub use made::{LinkAck, Made};
 pub use node::Node;

@@ -222,7 +222,8 @@ fn forget_asked(outbox: &mut Outbox, event: &Event)
         | Event::Retire { .. }
         | Event::Lapse { .. }
         | Event::Snapshot
-        | Event::Skip { .. } => {}
+        | Event::Skip { .. }
+        | Event::Share { .. } => {}
     }
 }
 

@@ -11,6 +11,7 @@
 --     post_of_round                what asks that begin are posted with, if any do
 --     replies_of                   what clients are told
 --     anew quorum s                the pending phase begins anew;  question: what it asks the others
+--     with_share share s           from the next round on so many asks begin together at most
 --     pending, unanswered          the asks of the pending round; these, and those that wait
 --     mine_at_last                 the own value once all that wait have begun
 use Rattle.std.specs.Prelude.{◌==◌, ℕ, ◌+◌, ◌<◌, ◌≤◌, Bool, true, false, ◌&&◌, if◌then◌else◌, List, [], ◌∷◌, ◌++◌, map}
@@ -232,6 +233,10 @@ again quorum (StoringBack p seen) = StoringBack (round_of quorum p.asked) seen
 -- the pending phase begins anew: under the next tag, with the need of now
 abbrev pub anew : ℕ → Ops → Ops
 anew quorum s = next_round (again quorum s.phase) s
+
+-- from the next round on so many asks begin together at most
+abbrev pub with_share : ℕ → Ops → Ops
+with_share share s = record s { share = share }
 
 -- what a phase asks the others under a tag, where the node sees that view
 abbrev pub question_in : ℕ → ViewMap → ℕ → Phase → Option Message

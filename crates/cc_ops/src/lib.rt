@@ -9,6 +9,7 @@ mod parting;
 mod pending;
 mod phases;
 mod replies;
+mod sharing;
 mod stage;
 
 pub use anew::anew_keeps_the_operation;

@@ -1,12 +1,12 @@
 //! A list of addresses.
 
 use crate::word_fault::WordFault;
+use cc_addresses::Address;
 use cc_words::address;
 use std::alloc::Global;
-use std::net::SocketAddr;
 
-/// The addresses, one at least and none twice, that a word is, as `127.0.0.1:7001,127.0.0.1:7002`.
-pub fn addresses(alloc: Global, list: &str) -> Result<Vec<SocketAddr>, WordFault> {
+/// The addresses, one at least and none twice, that a word is, as `127.0.0.1:7001,node-2:7001`.
+pub fn addresses(alloc: Global, list: &str) -> Result<Vec<Address>, WordFault> {
     let mut addresses = Vec::new(alloc);
     for word in list.split(',') {
         let address = address(word).ok_or(WordFault::Addresses)?;

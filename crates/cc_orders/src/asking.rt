@@ -2,9 +2,9 @@
 
 use crate::running::address_in;
 use crate::word_fault::WordFault;
+use cc_addresses::Address;
 use cc_messages::Command;
 use cc_words::{address, command, number, store_of};
-use std::net::SocketAddr;
 
 // How many seconds a client waits where no word says another number.
 const TIMEOUT: u64 = 10;
@@ -43,7 +43,7 @@ pub enum AnswerForm {
 /// A command that a client has done in its session.
 #[derive(Clone, Copy, PartialEq, Eq)]
 pub struct AskOrder {
-    pub address: SocketAddr,
+    pub address: Address,
     pub session: u64,
     pub command: Command,
     /// The number of its request, from 1 on. None for the one after the session's last.
@@ -56,13 +56,13 @@ pub struct AskOrder {
     /// Whether the command, a reading, reads what all nodes had at one moment.
     pub snapshot: bool,
     /// Where the node tells why it isn't ready, which is looked up where no answer came. None where it isn't.
-    pub status: Option<SocketAddr>,
+    pub status: Option<Address>,
 }
 
 impl AskOrder {
     /// A command that is done in a session, under the number after its last one, with so many seconds for the answer, which is
     /// printed as `play` prints it.
-    pub fn new(address: SocketAddr, session: u64, command: Command, timeout: u64) -> Self {
+    pub fn new(address: Address, session: u64, command: Command, timeout: u64) -> Self {
         AskOrder {
             address,
             session,

@@ -15,6 +15,6 @@ pub use asking::{AnswerForm, AskOrder, AskWords};
 pub use command_fault::CommandFault;
 pub use format_words::FormatWords;
 pub use loading::{LoadOrder, LoadWords, Operation};
-pub use operating::{LeaveOrder, RetireOrder, RetireWords, StatusOrder};
+pub use operating::{LeaveOrder, RetireOrder, RetireWords, ShareOrder, StatusOrder};
 pub use running::{LogLevel, RunOrder, RunWords};
 pub use word_fault::WordFault;

@@ -3,10 +3,10 @@
 use crate::addresses::addresses;
 use crate::asking::AnswerForm;
 use crate::word_fault::WordFault;
+use cc_addresses::Address;
 use cc_messages::Command;
 use cc_words::{number, store_of};
 use std::alloc::Global;
-use std::net::SocketAddr;
 
 // How many clients ask, for how many seconds, and the first of their sessions, where no word says another number.
 const CLIENTS: u64 = 8;
@@ -67,7 +67,7 @@ impl Operation {
 #[derive(Drop, PartialEq, Eq)]
 pub struct LoadOrder {
     /// Where the nodes listen, no address twice.
-    pub addresses: Vec<SocketAddr>,
+    pub addresses: Vec<Address>,
     /// How many clients ask at once, from 1 to 256.
     pub clients: u64,
     /// For how many seconds they ask.
@@ -97,7 +97,7 @@ impl LoadOrder {
 
     /// The node of the client with this number, from 0 on, and its session there. Clients go round the nodes, so no two have
     /// one session of one node. None without a node.
-    pub fn session_of(&self, client: u64) -> Option<(SocketAddr, u64)> {
+    pub fn session_of(&self, client: u64) -> Option<(Address, u64)> {
         let nodes = self.addresses.len() as u64;
         if nodes == 0 {
             return None;

@@ -3,15 +3,16 @@
 use crate::addresses::addresses;
 use crate::asking::AnswerForm;
 use crate::word_fault::WordFault;
+use cc_addresses::{Address, Peer};
+use cc_messages::Share;
 use cc_views::NodeId;
-use cc_words::{Peer, address, peers_in_lines, small_number};
+use cc_words::{address, peers_in_lines, small_number};
 use std::alloc::Global;
-use std::net::SocketAddr;
 
 /// The node at an address is to leave.
 #[derive(Clone, Copy, PartialEq, Eq)]
 pub struct LeaveOrder {
-    pub address: SocketAddr,
+    pub address: Address,
 }
 
 impl LeaveOrder {
@@ -20,6 +21,26 @@ impl LeaveOrder {
         let address = address(word).ok_or(WordFault::Address)?;
         Ok(LeaveOrder { address })
     }
+}
+
+/// Of the node at an address so many asks are to begin together.
+#[derive(Clone, Copy)]
+pub struct ShareOrder {
+    pub address: Address,
+    pub share: Share,
+}
+
+impl ShareOrder {
+    /// What the words behind `share` ask for.
+    pub fn parse(word: &str, share: &str) -> Result<Self, WordFault> {
+        let address = address(word).ok_or(WordFault::Address)?;
+        let share = share_in(share).ok_or(WordFault::NewShare)?;
+        Ok(ShareOrder { address, share })
+    }
+}
+
+fn share_in(word: &str) -> Option<Share> {
+    Share::new(u8::try_from(small_number(word)?).ok()?)
 }
 
 /// The words of `retire`, as they are given. None for one that isn't.
@@ -38,7 +59,7 @@ pub struct RetireWords<'a> {
 #[derive(Drop, PartialEq, Eq)]
 pub struct RetireOrder {
     /// Where these listen, one at least, and no address twice.
-    pub addresses: Vec<SocketAddr>,
+    pub addresses: Vec<Address>,
     pub node: NodeId,
     /// Whether it is retired though it was heard a moment ago.
     pub even_alive: bool,
@@ -88,7 +109,7 @@ impl RetireOrder {
     }
 }
 
-fn one_address(alloc: Global, word: &str) -> Result<Vec<SocketAddr>, WordFault> {
+fn one_address(alloc: Global, word: &str) -> Result<Vec<Address>, WordFault> {
     let address = address(word).ok_or(WordFault::Address)?;
     let mut addresses = Vec::new(alloc);
     addresses.push(address).or(Err(WordFault::NoMemory))?;
@@ -96,11 +117,7 @@ fn one_address(alloc: Global, word: &str) -> Result<Vec<SocketAddr>, WordFault> 
 }
 
 // Where the peers listen that aren't this node.
-fn addresses_but(
-    alloc: Global,
-    peers: &[Peer],
-    node: NodeId,
-) -> Result<Vec<SocketAddr>, WordFault> {
+fn addresses_but(alloc: Global, peers: &[Peer], node: NodeId) -> Result<Vec<Address>, WordFault> {
     let mut addresses = Vec::new(alloc);
     for peer in peers {
         if peer.id == node {
@@ -121,7 +138,7 @@ fn addresses_but(
 #[derive(Clone, Copy, PartialEq, Eq)]
 pub struct StatusOrder {
     /// Where it tells its status.
-    pub address: SocketAddr,
+    pub address: Address,
     /// As a table, or as JSON.
     pub form: AnswerForm,
     /// Whether it is asked once a second, until the program is ended.

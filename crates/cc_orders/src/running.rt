@@ -1,11 +1,10 @@
 //! What a node is told that is to run.
 
 use crate::word_fault::WordFault;
-use cc_frames::Peer;
+use cc_addresses::{Address, Peer};
 use cc_views::NodeId;
 use cc_words::{address, peers, peers_in_lines};
 use std::alloc::Global;
-use std::net::SocketAddr;
 
 /// The words of `run` behind its folder, as they are given. None for an option that isn't.
 #[derive(Clone, Copy)]
@@ -46,16 +45,16 @@ impl LogLevel {
 /// Where a node that runs listens, where the others do, and what it tells of itself.
 #[derive(Drop, PartialEq, Eq)]
 pub struct RunOrder {
-    pub listen: SocketAddr,
+    pub listen: Address,
     /// Where it listens for clients alone. None where it doesn't.
-    pub listen_clients: Option<SocketAddr>,
+    pub listen_clients: Option<Address>,
     /// Whether it takes the operator's requests that come from other machines.
     pub remote_operators: bool,
     /// Whether the answers to an operation go to all nodes, not to that alone which asked.
     pub answers_to_all: bool,
     pub peers: Vec<Peer>,
     /// Where it tells its status. None where it doesn't.
-    pub status: Option<SocketAddr>,
+    pub status: Option<Address>,
     pub log: LogLevel,
 }
 
@@ -106,7 +105,7 @@ impl RunOrder {
 pub(crate) fn address_in(
     word: Option<&str>,
     fault: WordFault,
-) -> Result<Option<SocketAddr>, WordFault> {
+) -> Result<Option<Address>, WordFault> {
     match word {
         Some(word) => match address(word) {
             Some(address) => Ok(Some(address)),

@@ -42,6 +42,8 @@ pub enum WordFault {
     SessionsFrom,
     Node,
     Retirement,
+    /// The share that a node is to have.
+    NewShare,
     /// An address stands twice in the file behind `--peers-file`.
     LineAddressTwice,
     /// That file names no node but the one to retire.
@@ -97,6 +99,7 @@ impl WordFault {
             WordFault::SessionsFrom => "--sessions-from isn't a number, such as 9000",
             WordFault::Node => "ID isn't the id of a node, such as 3",
             WordFault::Retirement => "retire takes ADDRS and ID, or --peers-file FILE and ID",
+            WordFault::NewShare => "N isn't a number from 1 to 32, such as 8",
             WordFault::LineAddressTwice => "names an address twice",
             WordFault::NobodyElse => "names no node but the one to retire",
             WordFault::NoMemory => "out of memory",

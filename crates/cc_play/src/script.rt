@@ -3,7 +3,7 @@
 use crate::delivery::Delivery;
 use crate::station::Standing;
 use cc_changes::Fraction;
-use cc_messages::{Event, PostRange};
+use cc_messages::{Event, PostRange, Share};
 use cc_site::Choice;
 use cc_views::NodeId;
 use cc_words::{command, fraction, list, number, small_number};
@@ -62,6 +62,7 @@ fn plain_line(words: &[&str]) -> Option<Line> {
         }
         ["acked", node, peer, number] => event_at(node, acked(peer, number)),
         ["retire", node, retired] => event_at(node, retire(retired)),
+        ["reshare", node, share] => event_at(node, reshare(share)),
         ["skip", node, from, first, last] => event_at(node, skip(from, first, last)),
         _ => carried_line(words),
     }
@@ -167,6 +168,13 @@ fn acked(peer: &str, n: &str) -> Option<Event> {
 fn retire(node: &str) -> Option<Event> {
     Some(Event::Retire {
         node: NodeId::new(small_number(node)?)?,
+    })
+}
+
+fn reshare(share: &str) -> Option<Event> {
+    let asks = u8::try_from(small_number(share)?).ok()?;
+    Some(Event::Share {
+        share: Share::new(asks)?,
     })
 }
 

@@ -4,6 +4,7 @@ mod IncomingLaws
 mod LearningLaws
 mod OperatingLaws
 mod RoutingLaws
+mod SharingLaws
 mod SpeakingLaws
 mod StandingLaws
 mod StandingsLaws

@@ -28,4 +28,5 @@ allows access (event.Acked peer number) = access.nodes
 allows access (event.Skip from posts) = access.nodes
 allows access (event.Ask session request command) = access.asks
 allows access (event.Retire node) = access.operators
+allows access (event.Share share) = access.operators
 allows access _ = false

@@ -28,6 +28,7 @@ event_in frame.Leave = Some event.Leave
 event_in (frame.Retire node) = Some (event.Retire node)
 event_in (frame.Skip from posts) = Some (event.Skip from posts)
 event_in (frame.RetireIfSilent node) = Some (event.Retire node)
+event_in (frame.Share share) = Some (event.Share share)
 
 -- what tells a peer that these posts of the node `me` are for others
 abbrev pub skip_spelling : ℕ → Option Range → List ℕ
@@ -53,4 +54,5 @@ abbrev pub refusal_frame : Event → Refusal → Option Frame
 refusal_frame event.Leave why = Some (refusing 0 0 why)
 refusal_frame (event.Ask session request command) why = Some (refusing session request why)
 refusal_frame (event.Retire node) why = Some (refusing 0 0 why)
+refusal_frame (event.Share share) why = Some (refusing 0 0 why)
 refusal_frame _ why = None

@@ -5,6 +5,7 @@ pub mod Heeding
 pub mod Admission
 pub mod Asking
 pub mod Operating
+pub mod Sharing
 pub mod Objecting
 pub mod Routing
 pub mod Speaking

@@ -45,7 +45,8 @@ pub fn may_hand_over(me: NodeId, event: &Event, kept: u64, is_furthest: bool, wa
         | Event::Retire { .. }
         | Event::Lapse { .. }
         | Event::Snapshot
-        | Event::Skip { .. } => true,
+        | Event::Skip { .. }
+        | Event::Share { .. } => true,
     }
 }
 

@@ -39,6 +39,7 @@ pub fn event_of(frame: Frame) -> Option<Event>
         Frame::Leave => Some(Event::Leave),
         Frame::Retire { node } | Frame::RetireIfSilent { node } => Some(Event::Retire { node }),
         Frame::Skip { from, posts } => Some(Event::Skip { from, posts }),
+        Frame::Share { share } => Some(Event::Share { share }),
     }
 }
 
@@ -112,7 +113,9 @@ pub fn refused_frame(event: &Event, refusal: Refusal) -> Option<Frame>
             request,
             ..
         } => Some(refusing(*session, *request, refusal)),
-        Event::Leave | Event::Retire { .. } => Some(refusing(0, 0, refusal)),
+        Event::Leave | Event::Retire { .. } | Event::Share { .. } => {
+            Some(refusing(0, 0, refusal))
+        }
         Event::Enter
         | Event::Deliver { .. }
         | Event::Acked { .. }

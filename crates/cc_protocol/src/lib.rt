@@ -16,6 +16,7 @@ mod operating;
 mod origin;
 mod route;
 mod routes;
+mod sharing;
 mod silence;
 mod speakers;
 mod standing;
@@ -45,6 +46,7 @@ pub use operating::{
 pub use origin::{Access, Admitted, Origin};
 pub use route::Route;
 pub use routes::{Routes, answers_follow_asks};
+pub use sharing::{a_share_is_told, share_outcome_of};
 pub use silence::is_silent;
 pub use speakers::{Speaker, Speakers, Spoken};
 pub use standing::{Standing, none_lapses_but_absent, who_keeps_up_stays};

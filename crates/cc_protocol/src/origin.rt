@@ -25,7 +25,7 @@ pub struct Access {
     pub asks: bool,
     /// Messages and acknowledgements of nodes.
     pub nodes: bool,
-    /// The operator's requests: Leave and Retire.
+    /// The operator's requests: Leave, Retire and Share.
     pub operators: bool,
 }
 
@@ -61,7 +61,7 @@ impl Access {
         match event {
             Event::Ask { .. } => self.asks,
             Event::Deliver { .. } | Event::Acked { .. } | Event::Skip { .. } => self.nodes,
-            Event::Leave | Event::Retire { .. } => self.operators,
+            Event::Leave | Event::Retire { .. } | Event::Share { .. } => self.operators,
             Event::Enter | Event::Lapse { .. } | Event::Snapshot => false,
         }
     }

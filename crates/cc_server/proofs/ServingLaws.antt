@@ -51,6 +51,7 @@ refused_again (event.Retire node) why differs = refl
 refused_again (event.Lapse node) why differs = refl
 refused_again event.Snapshot why differs = refl
 refused_again (event.Skip from posts) why differs = refl
+refused_again (event.Share share) why differs = refl
 
 stirred_again : (e : Event) (stirs differs : Bool) → brings_again (heed_of e (Ok stirs) differs) ≡ brings_again (heed_of e (Ok stirs) false)
 stirred_again e true differs = refl

@@ -16,7 +16,7 @@ use cc_ops::Asked;
 use cc_protocol::{
     Duty, Ending, Incoming, Input, Objection, event_of, objection_frame, objection_to,
 };
-use cc_shared::{Departure, Meeting, Notice, Shared, give_notice};
+use cc_shared::{Instruction, Meeting, Notice, Shared, give_notice};
 use cc_views::NodeId;
 use log::{Log, debug};
 use std::alloc::Global;
@@ -176,8 +176,9 @@ impl<R: Wait + Log, I: Input, S: Admitting, D: Replies, F: Flushed> Caller<'_, R
     // What an accepted event tells of the node that sent it, and what it asks.
     fn hear(&self, event: &Event) {
         match event {
-            Event::Leave => self.note_operator(Departure::Leave),
-            Event::Retire { node } => self.note_operator(Departure::Retire(*node)),
+            Event::Leave => self.note_operator(Instruction::Leave),
+            Event::Retire { node } => self.note_operator(Instruction::Retire(*node)),
+            Event::Share { share } => self.note_operator(Instruction::Share(*share)),
             Event::Ask {
                 session,
                 request,
@@ -198,9 +199,9 @@ impl<R: Wait + Log, I: Input, S: Admitting, D: Replies, F: Flushed> Caller<'_, R
     }
 
     // Notes what the operator asked, and from where.
-    fn note_operator(&self, departure: Departure) {
+    fn note_operator(&self, instruction: Instruction) {
         let from = self.address;
-        give_notice(self.rt, self.me, &Notice::Asked { departure, from });
+        give_notice(self.rt, self.me, &Notice::Told { instruction, from });
     }
 
     // What notes whom the connection brings news of.

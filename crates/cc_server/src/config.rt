@@ -1,7 +1,6 @@
 //! What a node is run with.
 
-use cc_frames::Peer;
-use std::net::SocketAddr;
+use cc_addresses::{Address, Peer};
 
 /// What a node is run with.
 #[derive(Drop)]
@@ -9,9 +8,9 @@ pub struct Config<'a> {
     /// The node's folder.
     pub dir: &'a str,
     /// Where the node listens.
-    pub listen: SocketAddr,
+    pub listen: Address,
     /// Where it listens for clients alone, if it does: nothing is taken there but what they ask.
-    pub listen_clients: Option<SocketAddr>,
+    pub listen_clients: Option<Address>,
     /// Whether it takes the operator's requests that come from other machines.
     pub remote_operators: bool,
     /// Whether the answers to an operation go to all nodes, as programs take them that know no Skip; else to the node alone
@@ -22,7 +21,7 @@ pub struct Config<'a> {
     /// The file that says so, one peer a line, if there is one: it is read again while the node runs.
     pub peers_file: Option<&'a str>,
     /// Where those who look at the node are served, if they are.
-    pub status: Option<SocketAddr>,
+    pub status: Option<Address>,
     /// The program's version, which they are shown.
     pub version: &'a str,
 }

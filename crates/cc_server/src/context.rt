@@ -4,13 +4,13 @@ ghost use Rattle.std.specs.Prelude.{◌≡◌, ◌+◌, List};
 ghost use Rattle.cc_intake.specs.Talks.{Answer, IsAnswer, Talks, places_of, PlacesRise};
 
 use crate::of_life::OfLife;
+use cc_addresses::Address;
 use cc_channels::{Admission, Connection, ConnectionAdmission};
 use cc_intake::{Hooks, Intake, Lane, Life, Queue, Share, Source, work};
 use cc_protocol::Admitted;
 use cc_shared::Shared;
 use cc_views::NodeId;
 use std::alloc::Global;
-use std::net::SocketAddr;
 use std::sync::{Mutex, Wait};
 
 /// What all workers share.
@@ -22,8 +22,8 @@ pub struct Context<'x, R: Wait, H: Hooks, L: Life, Q: Lane> {
     /// The node's folder.
     pub dir: &'x str,
     /// Where the node listens, and where for clients alone, if it does.
-    pub listen: SocketAddr,
-    pub listen_clients: Option<SocketAddr>,
+    pub listen: Address,
+    pub listen_clients: Option<Address>,
     /// The file of the peers, if there is one.
     pub peers_file: Option<&'x str>,
     pub hooks: &'x H,

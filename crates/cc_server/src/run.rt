@@ -10,6 +10,7 @@ use crate::measured::Measured;
 use crate::of_life::OfLife;
 use crate::run_fault::RunFault;
 use crate::threads::{cut, live};
+use cc_addresses::Address;
 use cc_channels::{Admission, Durable, Stop, millis};
 use cc_files::FileSite;
 use cc_flush::{Back, Failed, Flusher, open_anew};
@@ -27,7 +28,7 @@ use log::{Log, error, info};
 use std::alloc::Global;
 use std::fs::{File, Files};
 use std::marker::Brand;
-use std::net::{Net, SocketAddr, TcpListener, TcpStream};
+use std::net::{Net, TcpListener, TcpStream};
 use std::sync::ledger::Blank;
 use std::sync::{Mutex, Wait};
 
@@ -173,7 +174,7 @@ where
     match prepare(run, listener, &core) {
         Ok(listeners) => {
             let me = core.me();
-            let address = listeners.node.local_addr().unwrap_or(run.config.listen);
+            let address = place_of(&listeners.node).unwrap_or(run.config.listen);
             run.shared.known.learn_links(run.rt, &core);
             note(run, me, "runs", address);
             note_clients(run, me, &listeners);
@@ -235,7 +236,7 @@ where
 }
 
 // Listens at an address, if there is one.
-fn listening_if<R>(rt: &R, address: Option<SocketAddr>) -> Result<Option<TcpListener>, RunFault>
+fn listening_if<R>(rt: &R, address: Option<Address>) -> Result<Option<TcpListener>, RunFault>
 where
     R: Net<Listener = TcpListener, Stream = TcpStream> + Log,
 {
@@ -245,8 +246,8 @@ where
     }
 }
 
-// Listens at an address. Why it can't is noted.
-fn listening<R>(rt: &R, address: SocketAddr) -> Result<TcpListener, RunFault>
+// Listens at an address: where it is a name, at the first place of that name where it can. Why it can't is noted.
+fn listening<R>(rt: &R, address: Address) -> Result<TcpListener, RunFault>
 where
     R: Net<Listener = TcpListener, Stream = TcpStream> + Log,
 {
@@ -259,7 +260,7 @@ where
     }
 }
 
-fn note<R: Log, H>(run: &Run<'_, R, H>, me: NodeId, what: &str, address: SocketAddr) {
+fn note<R: Log, H>(run: &Run<'_, R, H>, me: NodeId, what: &str, address: Address) {
     info!(run.rt; "node {} {} at {}", me.number(), what, address);
 }
 
@@ -268,9 +269,15 @@ fn note_clients<R: Log, H>(run: &Run<'_, R, H>, me: NodeId, listeners: &Listener
     let Some(clients) = &listeners.clients else {
         return;
     };
-    if let Ok(address) = clients.local_addr() {
+    if let Some(address) = place_of(clients) {
         note(run, me, "takes asks alone", address);
     }
+}
+
+// Where somebody listens.
+fn place_of(listener: &TcpListener) -> Option<Address> {
+    let address = listener.local_addr().ok()?;
+    Some(Address::from(address))
 }
 
 // Lives the life that begins with the node that was opened. Its premises are those of `start`.

@@ -3,13 +3,12 @@
 use crate::machine::{Machine, ReadText};
 use crate::notes::{Notice, give_notice};
 use crate::shared::Shared;
+use cc_addresses::{Address, Peer};
 use cc_channels::{Flag, write_peer};
-use cc_frames::Peer;
 use cc_views::NodeId;
 use cc_words::{LineFault, peers_in_lines};
 use log::Log;
 use std::alloc::Global;
-use std::net::SocketAddr;
 use std::sync::Wait;
 use std::thread::Scope;
 use std::time::Duration;
@@ -26,8 +25,8 @@ const PAUSES: u64 = 10;
 pub struct Follower<'x> {
     /// The node, and where it listens, and for clients alone, if it does.
     pub me: NodeId,
-    pub listen: SocketAddr,
-    pub listen_clients: Option<SocketAddr>,
+    pub listen: Address,
+    pub listen_clients: Option<Address>,
     /// The file.
     pub path: &'x str,
     pub shared: &'x Shared,
@@ -36,7 +35,7 @@ pub struct Follower<'x> {
 }
 
 impl Follower<'_> {
-    fn listens_at(&self, address: SocketAddr) -> bool {
+    fn listens_at(&self, address: Address) -> bool {
         address == self.listen || Some(address) == self.listen_clients
     }
 }

@@ -24,7 +24,7 @@ pub use listeners::{Listeners, Port};
 pub use looking::{Looks, look, tell_withheld};
 pub use machine::{Machine, ReadText};
 pub use meeting::Meeting;
-pub use notes::{Departure, Note, NoteChannel, Notice, Waiting, give_notice, write_notes};
+pub use notes::{Instruction, Note, NoteChannel, Notice, Waiting, give_notice, write_notes};
 pub use opening::note_opened;
 pub use outlet::ServerOutlet;
 pub use pages::show_until;

@@ -1,6 +1,8 @@
 //! What a running node notes of its peers on standard error.
 
+use cc_addresses::Address;
 use cc_files::file_name;
+use cc_messages::Share;
 use cc_protocol::{AskName, Lasting};
 use cc_site::Side;
 use cc_views::NodeId;
@@ -149,11 +151,13 @@ fn print_pending<W: fmt::Write>(f: &mut fmt::Formatter<W>, waiting: Waiting) -> 
 
 /// What the operator asked of a node.
 #[derive(Clone, Copy)]
-pub enum Departure {
+pub enum Instruction {
     /// That it leaves.
     Leave,
     /// That this node is retired.
     Retire(NodeId),
+    /// How many asks begin together.
+    Share(Share),
 }
 
 /// What a node notes of its share, its peers and their file, by whoever sees it.
@@ -168,14 +172,14 @@ pub enum Notice<'a> {
     /// A peer is unknown to the folder.
     Unknown(NodeId),
     /// The file of the peers has a peer that wasn't there before.
-    Added(NodeId, SocketAddr),
+    Added(NodeId, Address),
     /// The file of the peers has another address for a peer.
-    Elsewhere(NodeId, SocketAddr),
+    Elsewhere(NodeId, Address),
     /// A peer has no line in the file of the peers any more.
     Unlisted(NodeId),
     /// The operator asked that, from there, and it is done.
-    Asked {
-        departure: Departure,
+    Told {
+        instruction: Instruction,
         from: SocketAddr,
     },
     /// The file of the peers isn't taken, since one line isn't as it should be, or two are of one node, or it can't be read.
@@ -193,7 +197,7 @@ impl Notice<'_> {
             | Notice::Added(..)
             | Notice::Elsewhere(..)
             | Notice::Unknown(_)
-            | Notice::Asked { .. } => Level::Info,
+            | Notice::Told { .. } => Level::Info,
             Notice::Unreachable(_) | Notice::Unlisted(_) | Notice::NotTaken { .. } => Level::Warn,
         }
     }
@@ -225,7 +229,7 @@ impl fmt::Display for Notice<'_> {
                 "keeps node {} among its peers until it is started again: its line is gone",
                 peer.number()
             ),
-            Notice::Asked { departure, from } => print_departure(f, departure, from),
+            Notice::Told { instruction, from } => print_instruction(f, instruction, from),
             Notice::NotTaken { file, why } => write!(
                 f,
                 "keeps its peers as they are: {file} {why}"
@@ -234,19 +238,22 @@ impl fmt::Display for Notice<'_> {
     }
 }
 
-fn print_departure<W: fmt::Write>(
+fn print_instruction<W: fmt::Write>(
     f: &mut fmt::Formatter<W>,
-    departure: Departure,
+    instruction: Instruction,
     from: SocketAddr,
 ) -> fmt::Result {
-    match departure {
-        Departure::Leave => write!(f, "was told from {from} that it leaves"),
-        Departure::Retire(node) => {
+    match instruction {
+        Instruction::Leave => write!(f, "was told from {from} that it leaves"),
+        Instruction::Retire(node) => {
             write!(
                 f,
                 "was told from {from} that node {} is retired",
                 node.number()
             )
+        }
+        Instruction::Share(share) => {
+            write!(f, "was told from {from} that its share is {}", share.asks())
         }
     }
 }

@@ -1,7 +1,7 @@
 //! What is noted of a node as it is opened.
 
 use crate::notes::{Notice, give_notice};
-use cc_frames::Peer;
+use cc_addresses::Peer;
 use cc_node::Core;
 use log::Log;
 

@@ -2,11 +2,11 @@
 
 use crate::known::Known;
 use crate::notes::{Note, NoteChannel, note_channel};
+use cc_addresses::Peer;
 use cc_channels::{
     Connections, FarEnd, Flag, Grants, OwnChannel, PeerChannel, PeerChannels, Waker, channels_to,
     own_channel,
 };
-use cc_frames::Peer;
 use cc_messages::Event;
 use cc_protocol::{Standings, Wishes, is_silent};
 use cc_views::{NoMemory, NodeId};

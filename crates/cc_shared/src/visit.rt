@@ -67,7 +67,8 @@ pub fn admit<R: Wait>(
 }
 
 fn origin_of<R: Wait>(rt: &R, shared: &Shared, from: SocketAddr, port: Port) -> Origin {
-    let address = from.ip();
+    // An IPv4 address comes to an IPv6 listener as one that is mapped.
+    let address = from.ip().to_canonical();
     if matches!(port, Port::Clients) {
         Origin::Client
     } else if address.is_loopback() {

@@ -37,7 +37,7 @@ use Rattle.cc_outbox.specs.Rows.{numbered}
 use Rattle.cc_node.specs.Core.{Core}
 use Rattle.cc_node.specs.Node.{Node}
 use Rattle.cc_node.specs.Lawful.{IsLawfulNode}
-use Rattle.cc_node.specs.Rounds.{share_limit}
+use Rattle.cc_messages.specs.Shares.{share_limit}
 use Rattle.cc_sides.specs.Layouts.{layout_for}
 use Rattle.cc_sides.specs.declared.layout.Layout.{Layout}
 use Rattle.cc_sides.specs.declared.layout.Layout.TheVariants.{Plain, Lined, Shared}

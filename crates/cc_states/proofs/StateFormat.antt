@@ -24,7 +24,7 @@ use Rattle.cc_wire.proofs.AnswerFormat.{answer_spelled}
 use Rattle.cc_wire.proofs.EventFormat.{asked_spelled}
 use Rattle.cc_wire.specs.Spelling.{value_spelling, IsValue}
 use Rattle.cc_states.specs.Fields.{own_at}
-use Rattle.cc_node.specs.Rounds.{share_limit}
+use Rattle.cc_messages.specs.Shares.{share_limit}
 use Rattle.cc_sides.specs.declared.layout.Layout.{Layout}
 use Rattle.cc_sides.specs.declared.layout.Layout.TheVariants.{Plain, Lined, Shared}
 use Rattle.cc_sides.specs.States.{fraction_spelling, IsFraction, fraction_with, fraction_at}

@@ -7,7 +7,7 @@ use Rattle.cc_ops.specs.declared.pending.Asked.{Asked}
 use Rattle.cc_sides.specs.declared.layout.Layout.{Layout}
 use Rattle.cc_sides.specs.declared.layout.Layout.TheVariants.{Plain, Lined, Shared}
 use Rattle.cc_sides.specs.Layouts.{layout_for}
-use Rattle.cc_node.specs.Rounds.{share_limit}
+use Rattle.cc_messages.specs.Shares.{share_limit}
 use Rattle.cc_node.specs.Node.{Node}
 use Rattle.cc_sides.specs.States.{SpellsNode, layout_of_node, AreAsks, IsLineOf, AreOthersOf}
 

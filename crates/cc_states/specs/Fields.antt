@@ -16,7 +16,7 @@ use Rattle.cc_outbox.specs.Outbox.{post_limit}
 use Rattle.cc_ops.specs.Ops.{Phase}
 use Rattle.cc_ops.specs.Stages.{phase_of, HasWaiting, WaitsBehind, HasRoom}
 use Rattle.cc_ops.specs.declared.pending.Asked.{Asked}
-use Rattle.cc_node.specs.Rounds.{share_limit}
+use Rattle.cc_messages.specs.Shares.{share_limit}
 use Rattle.cc_sides.specs.States as states
 use Rattle.cc_states.specs.declared.fields.Membership.{Membership}
 use Rattle.cc_states.specs.declared.fields.Own.{Own}

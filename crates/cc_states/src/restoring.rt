@@ -10,7 +10,7 @@ ghost use Rattle.cc_outbox.specs.Outbox.{post_limit};
 ghost use Rattle.cc_outbox.specs.Rows as kept_rows;
 ghost use Rattle.cc_ops.specs.Stages.{HasWaiting, WaitsBehind, HasRoom};
 ghost use Rattle.cc_node.specs.Lawful.{IsLawfulNode};
-ghost use Rattle.cc_node.specs.Rounds.{share_limit};
+ghost use Rattle.cc_messages.specs.Shares.{share_limit};
 ghost use Rattle.cc_sides.specs.States.{numbered_to, node_of};
 ghost use Rattle.cc_states.specs.Fields.{round_in, state_in, AreRead, CanBuild};
 

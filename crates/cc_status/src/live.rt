@@ -7,11 +7,11 @@ ghost use Rattle.cc_churn.specs.Churn as churn;
 ghost use Rattle.cc_status.specs.Readiness.{says_heard, is_away};
 
 use crate::counts::Counted;
+use cc_addresses::Address;
 use cc_node::{Core, Node};
 use cc_site::Side;
 use cc_views::{NoMemory, NodeId};
 use std::alloc::Global;
-use std::net::SocketAddr;
 
 /// A node as it was flushed at one moment: its core, how many posts it kept, and how many answers an operation needs that
 /// begins then.
@@ -56,7 +56,7 @@ pub struct DiskShown {
 #[derive(Clone, Copy)]
 pub struct PeerNote {
     pub peer: NodeId,
-    pub address: Option<SocketAddr>,
+    pub address: Option<Address>,
     pub connected_since: Option<u64>,
     pub absent_since: Option<u64>,
     pub last_heard: Option<u64>,

@@ -3,11 +3,11 @@
 use crate::live::{Live, PeerNote};
 use crate::status::PeerStatus;
 use crate::wide::Wide;
+use cc_addresses::Address;
 use cc_links::LinkRow;
 use cc_node::Core;
 use cc_views::NoMemory;
 use std::alloc::Global;
-use std::net::SocketAddr;
 
 /// Adds each node to which there is a link and that hasn't left, but the node itself, by ascending number.
 pub(crate) fn push_peers(
@@ -63,6 +63,6 @@ fn add_note(alloc: Global, note: &PeerNote, status: &mut PeerStatus) -> Result<(
     Ok(())
 }
 
-fn address_text(alloc: Global, address: SocketAddr) -> Result<String, NoMemory> {
+fn address_text(alloc: Global, address: Address) -> Result<String, NoMemory> {
     Ok(format!(in alloc; "{address}")?)
 }

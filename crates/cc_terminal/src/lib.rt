@@ -16,7 +16,7 @@ pub use folder::{dump, format, print_lost, print_trouble, wait_for_folder};
 pub use lines::Lines;
 pub use loading::load;
 pub use machinery::Machinery;
-pub use network::{ask, leave, retire, status};
+pub use network::{ask, leave, retire, share, status};
 pub use noting::NotingRuntime;
 pub use playing::play_input;
 pub use statuses::{BAD_COMMAND_LINE, FAULT, print_unreadable, print_word_fault};

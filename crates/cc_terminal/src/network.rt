@@ -1,15 +1,15 @@
 //! What is asked of a node over TCP.
 
 use crate::statuses::{BAD_COMMAND_LINE, print_unreadable, print_word_fault};
-use cc_client::{Told, ask_node, leave_node, retire_node};
+use cc_addresses::Address;
+use cc_client::{Told, ask_node, leave_node, retire_node, share_node};
 use cc_look::{look_at, reason_at};
 use cc_orders::{
-    AnswerForm, AskOrder, AskWords, CommandFault, LeaveOrder, RetireOrder, RetireWords,
+    AnswerForm, AskOrder, AskWords, CommandFault, LeaveOrder, RetireOrder, RetireWords, ShareOrder,
     StatusOrder, WordFault,
 };
 use cc_texts::Harmless;
 use std::io::ErrorKind;
-use std::net::SocketAddr;
 use std::process::ExitCode;
 use std::time::Duration;
 use std::{fs, io, thread};
@@ -30,7 +30,7 @@ pub fn ask(rt: &HostRuntime, words: &AskWords<'_>) -> anyhow::Result<ExitCode> {
 }
 
 // Where no answer came, and the node tells at its status why it isn't ready, that is told on standard error.
-fn end_silent(rt: &HostRuntime, told: Told, page: &SocketAddr) -> anyhow::Result<ExitCode> {
+fn end_silent(rt: &HostRuntime, told: Told, page: &Address) -> anyhow::Result<ExitCode> {
     match reason_at(rt, rt.alloc(), page) {
         Some(reason) => {
             eprintln!(rt; "ccnode: {}", Harmless(reason.as_str()))?;
@@ -54,6 +54,17 @@ pub fn leave(rt: &HostRuntime, address: &str) -> anyhow::Result<ExitCode> {
     };
     let mut output = std::io::writer(rt);
     let told = leave_node(rt, rt.alloc(), &order, &mut output)?;
+    end(rt, told)
+}
+
+/// Tells a node how many asks begin together: the status of that.
+pub fn share(rt: &HostRuntime, address: &str, share: &str) -> anyhow::Result<ExitCode> {
+    let order = match ShareOrder::parse(address, share) {
+        Ok(order) => order,
+        Err(fault) => return print_word_fault(rt, fault),
+    };
+    let mut output = std::io::writer(rt);
+    let told = share_node(rt, rt.alloc(), &order, &mut output)?;
     end(rt, told)
 }
 

@@ -165,4 +165,8 @@ impl<R: Net> Net for NotingRuntime<'_, R> {
     fn connect_timeout(&self, addr: SocketAddr, timeout: Duration) -> io::Result<R::Stream> {
         self.rt.connect_timeout(addr, timeout)
     }
+
+    fn lookup_host(&self, host: &str, port: u16, found: &mut [SocketAddr]) -> io::Result<usize> {
+        self.rt.lookup_host(host, port, found)
+    }
 }

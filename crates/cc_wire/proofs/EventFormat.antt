@@ -1,13 +1,13 @@
 -- Events are read as they are spelled.
 use Rattle.std.proofs.Common.{◌≡◌, ℕ, cond, eqb, List, [], ◌∷◌, ◌++◌, Ok, refl}
 use Rattle.cc_messages.specs.declared.event.Event.{Event}
-use Rattle.cc_messages.specs.declared.event.Event.TheVariants.{Enter, Leave, Deliver, Acked, Ask, Retire, Lapse, Snapshot, Skip}
+use Rattle.cc_messages.specs.declared.event.Event.TheVariants.{Enter, Leave, Deliver, Acked, Ask, Retire, Lapse, Snapshot, Skip, Share}
 use Rattle.cc_wire.specs.Reading.{Reading, via}
 use Rattle.cc_wire.specs.Events.{numbered_spelling, IsNumbered, numbered_at, delivery_spelling, IsDelivery, delivery_at, place_spelling, IsPlace}
 use Rattle.cc_wire.specs.Events.{place_at, asked_spelling, IsAsked, asked_at, event_spelling, IsEvent, event_fields, event_at}
 use Rattle.cc_wire.specs.Events.{skip_spelling, IsSkip, skip_at}
 use Rattle.cc_wire.proofs.Spelled.{IsBytes, Takes, Spelled, both, as_facts, nothing_spelled, kind_or, kinded_takes}
-use Rattle.cc_wire.proofs.Formats.{id_spelled, u64_spelled, range_spelled}
+use Rattle.cc_wire.proofs.Formats.{id_spelled, u64_spelled, range_spelled, ask_share_spelled}
 use Rattle.cc_wire.proofs.MessageFormat.{message_spelled}
 use Rattle.cc_wire.proofs.CommandFormat.{command_spelled}
 
@@ -59,7 +59,8 @@ module _ (bytes after : List ℕ) (k : ℕ) (m : Event) (rest : List ℕ) (fits 
       case id_spelled (λ node. Lapse node) 32 (λ a h. h) (λ a. refl) _ (
       case nothing_spelled (λ _. Snapshot) 33 (λ a h. h) (λ a. refl) _ (
       case skip_spelled (λ f. Skip f.0 f.1) 34 (λ a h. h) (λ a. refl) _ (
-      λ e. absurd cc)))))))))
+      case ask_share_spelled (λ share. Share share) 35 (λ a h. h) (λ a. refl) _ (
+      λ e. absurd cc))))))))))
 
 event_again : (m : Event) (rest : List ℕ) → IsEvent m → event_at (event_spelling m ++ rest) ≡ Ok (m, rest)
 unfolding event_at
@@ -72,6 +73,7 @@ event_again (Retire node) rest is = rw (id_spelled.again node rest is) refl
 event_again (Lapse node) rest is = rw (id_spelled.again node rest is) refl
 event_again Snapshot rest is = refl
 event_again (Skip from posts) rest is = rw (skip_spelled.again (from, posts) rest is) refl
+event_again (Share share) rest is = rw (ask_share_spelled.again share rest is) refl
 
 pub event_spelled : Spelled event_at IsEvent event_spelling
 unfolding event_at

@@ -1,6 +1,6 @@
 -- Each format is read as it is spelled.
-use Rattle.std.proofs.Common.{◌≡◌, ℕ, zero, suc, ◌+◌, ◌^◌, ◌<◌, ◌≤◌, Bool, true, false, ltb, List, [], ◌∷◌, ◌++◌, map as list_map, length, Ok, refl}
-use Rattle.std.proofs.Common.{sym, ap, subst, ◌∙◌, arith}
+use Rattle.std.proofs.Common.{◌≡◌, ℕ, zero, suc, ◌+◌, ◌^◌, ◌<◌, ◌≤◌, Bool, true, false, ltb, List, [], ◌∷◌, ◌++◌, map as list_map, length, Ok, Err, refl}
+use Rattle.std.proofs.Common.{sym, ap, subst, ◌∙◌, cond, arith}
 use Rattle.std.specs.Int.{w16, w32, w64, to_be_bytes}
 use Rattle.std.specs.List.{flat_map, AllByRecursion}
 use Rattle.std.specs.FinMap as map
@@ -11,21 +11,23 @@ use Rattle.cc_views.specs.NatSets.{NatSet, from_list, items}
 use Rattle.cc_views.specs.NatLists.{items_ascending, items-from_list, from_list-items}
 use Rattle.cc_changes.specs.ChangeSets.{ChangeSets}
 use Rattle.cc_messages.specs.Ranges.{Range, IsRange}
+use Rattle.cc_messages.specs.Shares.{IsAskShare, is_no_share}
+use Rattle.cc_messages.specs.ShareLaws.{is_share, share_is}
 use Rattle.cc_views.specs.declared.value.Value.{Value}
 use Rattle.cc_views.specs.declared.row.Row.{Row}
 use Rattle.cc_views.specs.Rows.{ViewMap, entry_of, rows_of}
 use Rattle.cc_views.specs.Tables.{IsRising, keys_ascend, rising_of_keys}
 use Rattle.cc_views.specs.Entries.{from_T}
 use Rattle.cc_views.proofs.Absorbs.{rows_back}
-use Rattle.cc_wire.specs.declared.fault.WireFault.TheVariants.{NotAscending, TooLarge}
+use Rattle.cc_wire.specs.declared.fault.WireFault.TheVariants.{BadKind, NotAscending, TooLarge}
 use Rattle.cc_wire.specs.Reading.{Reading, via, byte_at, number_at, limited, number_from, flag_with, flag_at, text_at, numbers_at, number_set_at}
 use Rattle.cc_wire.specs.Reading.{number_list_at, listed_at, value_with, value_at, row_with, row_at, row_list_at, view_with, view_at, id_set_at}
-use Rattle.cc_wire.specs.Reading.{changes_with, changes_at, wide_from, range_with, range_at}
+use Rattle.cc_wire.specs.Reading.{changes_with, changes_at, wide_from, range_with, range_at, ask_share_at}
 use Rattle.cc_wire.specs.Events.{range_spelling}
 use Rattle.cc_wire.specs.Spelling.{text_spelling, IsText, flag_spelling, number_spelling, number_set_spelling, IsNumberSet, value_spelling, IsValue}
 use Rattle.cc_wire.specs.Spelling.{row_spelling, IsRow, view_spelling, IsView, number_list_spelling, IsNumberList, id_set_spelling, IsId, IsIdSet}
 use Rattle.cc_wire.specs.Spelling.{changes_spelling, IsChanges}
-use Rattle.cc_wire.proofs.Spelled.{IsBytes, ok_is, Takes, Spelled, both, as_fields, as_facts, tested, counted, IsRun, items_spelled, byte_spelled}
+use Rattle.cc_wire.proofs.Spelled.{IsBytes, bind_ok, guard_ok, ok_is, Takes, Spelled, both, as_fields, as_facts, tested, counted, IsRun, items_spelled, byte_spelled}
 use Rattle.cc_wire.proofs.Spelled.{bytes_spelled, IsWide, number_spelled}
 use Rattle.cc_wire.proofs.Views.{len-rows_of, view_of_rows, entries_of_rows}
 
@@ -108,6 +110,19 @@ range_spelled = as_facts (λ r. IsRange r × (r.last < 2 ^ 64))
     (λ r h. (((omega (arith, h.0.ascends, h.1), h.0.some), h.1), h.0.ascends))
     (as_fields range_with range_fields (λ _. refl) (λ _ _. refl)
     (tested (λ f. ltb f.1 f.0) NotAscending (λ f. f.0 ≤ f.1) (λ f e. ltb-false _ _ e) (λ f le. le-ltb _ _ le) (both (wide_spelled 1) u64_spelled)))
+
+-- ---- how many asks may begin together
+
+pub ask_share_spelled : Spelled ask_share_at IsAskShare (λ share. share ∷ [])
+unfolding ask_share_at
+ask_share_spelled = record {
+  takes = λ bytes x rest fits e.
+      let a = bind_ok (byte_at bytes) (λ n. cond (is_no_share n.0) (Err (BadKind n.0)) (Ok n)) (x, rest) e in
+      let g = guard_ok (is_no_share a.0.0) (BadKind a.0.0) a.0 (x, rest) a.2 in
+      let t = byte_spelled.takes bytes a.0.0 a.0.1 fits a.1 in
+      subst (λ (y : ℕ × List ℕ). Takes bytes (y.0 ∷ []) y.1 × IsAskShare y.0) g.1 (t.0, is_share a.0.0 g.0);
+  again = λ x rest is. rw (share_is x is) refl;
+}
 
 -- ---- flags
 

@@ -169,3 +169,4 @@ length-event (events.Retire node) is = omega arith
 length-event (events.Lapse node) is = omega arith
 length-event events.Snapshot is = omega arith
 length-event (events.Skip from posts) is = omega arith
+length-event (events.Share share) is = omega arith

@@ -5,9 +5,10 @@ use Rattle.cc_wire.specs.declared.fault.WireFault.TheVariants.{BadKind}
 use Rattle.cc_messages.specs.declared.message.Message.{Message}
 use Rattle.cc_messages.specs.declared.command.Command.{Command}
 use Rattle.cc_messages.specs.Ranges.{Range, IsRange}
+use Rattle.cc_messages.specs.Shares.{IsAskShare}
 use Rattle.cc_messages.specs.declared.event.Event.{Event}
-use Rattle.cc_messages.specs.declared.event.Event.TheVariants.{Enter, Leave, Deliver, Acked, Ask, Retire, Lapse, Snapshot, Skip}
-use Rattle.cc_wire.specs.Reading.{Reading, ◌⊗◌, via, nothing_at, kinded, number_at, number_from, range_at}
+use Rattle.cc_messages.specs.declared.event.Event.TheVariants.{Enter, Leave, Deliver, Acked, Ask, Retire, Lapse, Snapshot, Skip, Share}
+use Rattle.cc_wire.specs.Reading.{Reading, ◌⊗◌, via, nothing_at, kinded, number_at, number_from, range_at, ask_share_at}
 use Rattle.cc_wire.specs.Spelling.{Spells, IsId}
 use Rattle.cc_wire.specs.Messages.{message_spelling, IsMessage, message_at}
 use Rattle.cc_wire.specs.Commands.{command_spelling, IsCommand, command_at}
@@ -81,6 +82,7 @@ event_spelling (Retire node) = 6 ∷ to_be_bytes w32 node
 event_spelling (Lapse node) = 32 ∷ to_be_bytes w32 node
 event_spelling Snapshot = 33 ∷ []
 event_spelling (Skip from posts) = 34 ∷ skip_spelling from posts
+event_spelling (Share share) = 35 ∷ share ∷ []
 
 abbrev pub IsEvent : Event → Type 0
 IsEvent Enter = Unit {0}
@@ -92,6 +94,7 @@ IsEvent (Retire node) = IsId node
 IsEvent (Lapse node) = IsId node
 IsEvent Snapshot = Unit {0}
 IsEvent (Skip from posts) = IsSkip from posts
+IsEvent (Share share) = IsAskShare share
 
 abbrev pub SpellsEvent : List ℕ → Event → Type 0
 SpellsEvent = Spells IsEvent event_spelling
@@ -107,7 +110,8 @@ event_fields kind =
     else (if kind == 32 then via (λ node. Lapse node) (number_from 1)
     else (if kind == 33 then via (λ _. Snapshot) nothing_at
     else (if kind == 34 then via (λ f. Skip f.0 f.1) skip_at
-    else (λ bytes. Err (BadKind kind))))))))))
+    else (if kind == 35 then via (λ share. Share share) ask_share_at
+    else (λ bytes. Err (BadKind kind)))))))))))
 
 unfoldable pub event_at : Reading Event
 event_at = kinded event_fields

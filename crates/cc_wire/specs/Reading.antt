@@ -11,6 +11,7 @@ use Rattle.cc_changes.specs.ChangeSets.{ChangeSets}
 use Rattle.cc_views.specs.Limits.{known_limit, set_limit, text_limit}
 use Rattle.cc_messages.specs.Limits.{list_limit}
 use Rattle.cc_messages.specs.Ranges.{Range}
+use Rattle.cc_messages.specs.Shares.{is_no_share}
 use Rattle.cc_wire.specs.declared.fault.WireFault.{WireFault}
 use Rattle.cc_wire.specs.declared.fault.WireFault.TheVariants.{Short, BadKind, NotAscending, TooLarge, Trailing, NoMemory}
 
@@ -84,6 +85,10 @@ range_with f = record { first = f.0; last = f.1 }
 -- two numbers that aren't 0, of which the second isn't the lesser one
 unfoldable pub range_at : Reading Range
 range_at = via range_with (λ bytes. (wide_from 1 ⊗ number_at w64) bytes >>= λ f. if nat_lt f.0.1 f.0.0 then Err NotAscending else Ok f)
+
+-- a byte that is the share of a round
+unfoldable pub ask_share_at : Reading ℕ
+ask_share_at bytes = byte_at bytes >>= λ n. if is_no_share n.0 then Err (BadKind n.0) else Ok n
 
 abbrev pub flag_with : ℕ × List ℕ → Result (Bool × List ℕ) WireFault
 flag_with (zero, rest) = Ok (false, rest)

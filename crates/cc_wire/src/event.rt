@@ -1,8 +1,9 @@
 //! Events as bytes.
 
-ghost use Rattle.std.specs.Prelude.{◌≡◌, ◌≤◌, ◌+◌, ℕ, List, [], ◌++◌, length, IfOk, OnOk, OnErr, IsOk, Ok, vec_len};
+ghost use Rattle.std.specs.Prelude.{◌≡◌, ◌≤◌, ◌+◌, ℕ, List, [], ◌∷◌, ◌++◌, length, IfOk, OnOk, OnErr, IsOk, Ok, vec_len};
 ghost use Rattle.std.specs.Int.{w64, to_be_bytes};
 ghost use Rattle.std.specs.Vec.{vec_capacity};
+ghost use Rattle.cc_messages.specs.Shares.{IsAskShare};
 ghost use Rattle.cc_wire.specs.Writing.{Writes};
 ghost use Rattle.cc_wire.specs.Reading.{Gives, whole};
 ghost use Rattle.cc_wire.specs.Events.{numbered_spelling, IsNumbered, delivery_spelling, IsDelivery, asked_spelling, IsAsked, place_spelling};
@@ -15,7 +16,7 @@ use crate::fault::WireFault;
 use crate::message::{put_message, put_news};
 use crate::reader::Reader;
 use crate::writer::{put_u8, put_u64, settled};
-use cc_messages::{Command, Event, Message, PostRange};
+use cc_messages::{Command, Event, Message, PostRange, Share};
 use cc_views::{NoMemory, NodeId};
 use std::alloc::{AllocError, Global};
 
@@ -105,6 +106,10 @@ impl<'a> Reader<'a> {
                 let (from, posts) = self.skip()?;
                 Ok(Event::Skip { from, posts })
             }
+            35 => {
+                let share = self.share()?;
+                Ok(Event::Share { share })
+            }
             kind => Err(WireFault::BadKind(kind)),
         }
     }
@@ -173,6 +178,14 @@ pub fn put_skip(out: &mut Vec<u8>, from: NodeId, posts: PostRange) -> Result<(),
     put_ends(out, posts.first(), posts.last())
 }
 
+/// Appends how many asks may begin together.
+pub fn put_share(out: &mut Vec<u8>, share: Share) -> Result<(), AllocError>
+    ensures writes { Writes out.old out.new (share ∷ []) result }
+    ensures fits { IsAskShare share }
+{
+    put_u8(out, share.asks())
+}
+
 // Appends the first and the last of some numbers.
 fn put_ends(out: &mut Vec<u8>, first: u64, last: u64) -> Result<(), AllocError>
     ensures { Writes out.old out.new (to_be_bytes w64 first ++ to_be_bytes w64 last) result }
@@ -214,6 +227,10 @@ pub(crate) fn put_event(out: &mut Vec<u8>, event: &Event) -> Result<(), AllocErr
         Event::Skip { from, posts } => {
             put_u8(out, 34)?;
             put_skip(out, *from, *posts)
+        }
+        Event::Share { share } => {
+            put_u8(out, 35)?;
+            put_share(out, *share)
         }
     }
 }

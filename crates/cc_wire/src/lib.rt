@@ -24,7 +24,7 @@ pub use changes_bytes::{put_changes, put_id};
 pub use command::{decode_command, encode_command, one_spelling_of_commands};
 pub use event::{
     decode_event, encode_event, one_spelling_of_events, put_asked, put_delivery, put_numbered,
-    put_place, put_skip,
+    put_place, put_share, put_skip,
 };
 pub use fault::WireFault;
 pub use message::{decode_message, encode_message, one_spelling_of_messages, put_message};

@@ -3,9 +3,10 @@
 ghost use Rattle.std.specs.Prelude.{◌≡◌, ◌≤◌, IfOk, length, take};
 ghost use Rattle.std.specs.Int.{w16, w32, w64};
 ghost use Rattle.cc_wire.specs.Reading.{Gives, TakesNoMemory, byte_at, bytes_at, number_at, number_from, wide_from, range_at, flag_at, ended};
+ghost use Rattle.cc_wire.specs.Reading.{ask_share_at};
 
 use crate::fault::WireFault;
-use cc_messages::PostRange;
+use cc_messages::{PostRange, Share};
 use cc_views::NodeId;
 use std::marker::Model;
 
@@ -129,6 +130,15 @@ impl<'a> Reader<'a> {
         let first = self.u64_from(1)?;
         let last = self.u64()?;
         PostRange::new(first, last).ok_or(WireFault::NotAscending)
+    }
+
+    /// How many asks may begin together, in one byte. BadKind where that is 0 or above 32.
+    #[tactic(auto, unfolding(crate::specs::Reading::ask_share_at))]
+    pub fn share(&mut self) -> Result<Share, WireFault>
+        ensures { Gives (λ x. (x, self.new)) result (ask_share_at self.old) }
+    {
+        let asks = self.u8()?;
+        Share::new(asks).ok_or(WireFault::BadKind(asks))
     }
 
     /// A node's id in four bytes, at least `least`. NotAscending where it is below.

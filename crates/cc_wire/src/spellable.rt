@@ -6,10 +6,11 @@ ghost use Rattle.cc_wire.specs.Spelling.{IsText, IsNumberSet, IsValue, IsRow, Is
 ghost use Rattle.cc_wire.specs.Messages.{IsMessage, IsCall};
 ghost use Rattle.cc_wire.specs.Commands.{IsCommand};
 ghost use Rattle.cc_wire.specs.Answers.{IsAnswer};
+ghost use Rattle.cc_messages.specs.Shares.{IsAskShare};
 ghost use Rattle.cc_wire.specs.Events.{IsEvent, IsSkip, event_spelling, SpellsEvent};
 
 use cc_changes::Changes;
-use cc_messages::{Answer, Command, Event, Message, PostRange};
+use cc_messages::{Answer, Command, Event, Message, PostRange, Share};
 use cc_views::{NodeId, NumberSet, Row, Text, Value, View};
 
 fn number_fits(number: u64)
@@ -173,6 +174,12 @@ fn skip_is_spellable(from: NodeId, posts: PostRange)
     number_fits(posts.last());
 }
 
+fn share_is_spellable(share: Share)
+    ensures { IsAskShare share }
+{
+    let _ = share.asks();
+}
+
 /// Every event has a spelling.
 pub fn event_is_spellable(event: &Event)
     ensures { SpellsEvent (event_spelling event.now) event.now }
@@ -203,5 +210,6 @@ pub fn event_is_spellable(event: &Event)
         }
         Event::Retire { node } | Event::Lapse { node } => id_is_spellable(*node),
         Event::Skip { from, posts } => skip_is_spellable(*from, *posts),
+        Event::Share { share } => share_is_spellable(*share),
     }
 }

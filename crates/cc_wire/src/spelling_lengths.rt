@@ -22,6 +22,8 @@ const ID: usize = 4;
 
 const NUMBER: usize = 8;
 
+const SHARE: usize = 1;
+
 fn text_len(text: &Text) -> usize
     ensures len { result ≡ length (text_spelling text.now) }
     ensures fits { result ≤ 65 }
@@ -145,5 +147,6 @@ pub fn event_len(event: &Event) -> usize
         Event::Ask { command, .. } => KIND + NUMBER + NUMBER + command_len(command),
         Event::Retire { .. } | Event::Lapse { .. } => KIND + ID,
         Event::Skip { .. } => KIND + ID + NUMBER + NUMBER,
+        Event::Share { .. } => KIND + SHARE,
     }
 }

@@ -1,40 +1,44 @@
 -- Addresses with a colon in them, and peers with an equals sign and commas.
---     Avoids, joined, ip_avoids                    no character of a text is that one;  of two in a row;  of an IPv4 address
---     no_colon, not_ip, not_port, is_address       a word without a colon is no address;  one whose parts aren't such;  one whose parts are
---     id_of                                        the id that a number is
---     no_equals, not_id, not_address, is_peer      the same of a peer
---     peers_of_parts, none_peers, peers_push       peers are what stands between commas;  one that is none;  one more
-use Rattle.std.proofs.Common.{◌≡◌, ◌≢◌, ◌↔◌, ℕ, zero, suc, ◌<◌, ◌≤◌, ◌^◌, List, [], ◌∷◌, ◌++◌, length, map, take, get_or, true, false, Option, Some}
+--     Avoids, one, joined, dotted_avoids, ip_avoids     no character of a text is that one;  of one character, two texts, an IPv4 address
+--     bracket_of_parse, not_bracketed                   what stands in brackets is an IPv6 address, or isn't;  no brackets
+--     no_host                                           neither of three is no machine
+--     no_colon, not_host, not_port, is_address          a word without a colon is no address;  one whose parts aren't such;  one whose parts are
+--     id_of                                             the id that a number is
+--     no_equals, not_id, not_address, is_peer           the same of a peer
+--     peers_of_parts, none_peers, peers_push            peers are what stands between commas;  one that is none;  one more
+use Rattle.std.proofs.Common.{◌≡◌, ◌≢◌, ◌↔◌, ℕ, zero, suc, ◌<◌, ◌≤◌, ◌^◌, List, [], ◌∷◌, ◌++◌, length, map, take, drop, get_or, true, false, Option, Some}
 use Rattle.std.proofs.Common.{None, Result, Ok, Err, Bor, refl, sym, ap, subst, ◌∙◌, arith, lit<, lit≤}
 use Rattle.std.specs.Prelude.{IsSome, IfSome, IfOk, MatchOption}
 use Rattle.std.specs.Fmt.{decimal}
 use Rattle.std.specs.Int.{IsInRange}
 use Rattle.std.specs.List.{All, slice_split}
 use Rattle.std.specs.Result.{result_ok}
-use Rattle.std.specs.Net.Grammar.{IsIpv4Text, Parses}
-use Rattle.std.specs.Net.Socket.{v4_ip, v4_port}
+use Rattle.std.specs.Net.Grammar.{IsDotted, IsIpv4Text, IsIpv6Text, Parses}
+use Rattle.std.specs.Net.Addr.{ipv4_octets}
 use Rattle.std.specs.Net.Text.{dotted_text}
+use Rattle.std.specs.declared.net.ip_addr.IpAddr.TheVariants as ip
 use Rattle.std.specs.declared.net.ipv4_addr.Ipv4Addr.{Ipv4Addr}
-use Rattle.std.specs.declared.net.socket_addr.SocketAddr.TheVariants as socket
-use Rattle.std.specs.declared.net.socket_addr.SocketAddrV4.{SocketAddrV4}
+use Rattle.std.specs.declared.net.ipv6_addr.Ipv6Addr.{Ipv6Addr}
 use Rattle.std.proofs.Math.Dec.{eqb}
 use Rattle.std.proofs.lemmas.Bool.{eqb-false}
 use Rattle.std.proofs.lemmas.Fmt.{decimal_injective}
 use Rattle.std.proofs.lemmas.List.Elements.{All-append, All-cons, All-nil}
 use Rattle.std.proofs.lemmas.Str.Pattern.{IsSplitOnceResult, split_after, split_parts}
-use Rattle.cc_frames.specs.declared.peer.Peer.{Peer}
 use Rattle.cc_words.specs.Words.{NoNumber}
-use Rattle.cc_words.specs.Addresses.{SpellsV4, SpellsAddress, NoAddress, NoId, SpellsPeer, NoPeer, ArePeers, NonePeers, SpellsPeers, NoPeers}
+use Rattle.cc_addresses.specs.Hosts.{IsHostName}
+use Rattle.cc_words.specs.Addresses.{SpellsBracketed, NoBracketed, SpellsHost, NoHost, SpellsAddress, NoAddress, NoId, SpellsPeer, NoPeer, ArePeers}
+use Rattle.cc_words.specs.Addresses.{NonePeers, SpellsPeers, NoPeers}
+use Rattle.cc_addresses.specs.declared.hosts.Host.TheVariants as host
+use Rattle.cc_addresses.specs.declared.peer.Address.{Address}
+use Rattle.cc_addresses.specs.declared.peer.Peer.{Peer}
 use Rattle.cc_words.proofs.Digits.{fits}
+use Rattle.cc_addresses.proofs.LastParts.{Lacks, cut_later, last_split, IsCut, cut_parts}
 use Rattle.cc_words.proofs.Parts.{avoids}
+
+-- ---- characters
 
 abbrev Cut : Type 0
 Cut = Option (Bor (List ℕ) × Bor (List ℕ))
-
--- ---- an address
-
-colon_is_no_digit : ¬ (IsInRange 48 57 58)
-colon_is_no_digit is = omega (arith, is.1)
 
 abbrev pub Avoids : ℕ → List ℕ → Type 0
 Avoids c text = All (λ b. eqb b c ≡ false) text
@@ -42,7 +46,7 @@ Avoids c text = All (λ b. eqb b c ≡ false) text
 octet : (c n : ℕ) → ¬ (IsInRange 48 57 c) → n < 256 → Avoids c (decimal n)
 octet c n out small = let most : 256 ≤ 2 ^ 64 = lit≤ tt in avoids c n (omega (arith, small, most)) out
 
-one : (c b : ℕ) → eqb b c ≡ false → Avoids c (b ∷ [])
+pub one : (c b : ℕ) → eqb b c ≡ false → Avoids c (b ∷ [])
 one c b other = All-cons (λ b. eqb b c ≡ false) b [] other (All-nil (λ b. eqb b c ≡ false))
 
 pub joined : (c : ℕ) (xs ys : List ℕ) → Avoids c xs → Avoids c ys → Avoids c (xs ++ ys)
@@ -55,50 +59,78 @@ dotted k a b c d out other p q r s =
     dot) (octet k d out s)
 
 -- an address has digits and dots alone
-pub ip_avoids : (k : ℕ) (text : List ℕ) (ip : Ipv4Addr) → ¬ (IsInRange 48 57 k) → eqb 46 k ≡ false → IsIpv4Text text ip → Avoids k text
-ip_avoids k text ip out other is = subst (Avoids k) (sym is.spelled) (dotted k is.a is.b is.c is.d out other is.fit.0 is.fit.1 is.fit.2 is.fit.3)
+pub dotted_avoids : (k : ℕ) (text octets : List ℕ) → ¬ (IsInRange 48 57 k) → eqb 46 k ≡ false → IsDotted text octets → Avoids k text
+dotted_avoids k text octets out other is =
+    subst (Avoids k) (sym is.spelled) (dotted k is.a is.b is.c is.d out other is.fit.0 is.fit.1 is.fit.2 is.fit.3)
 
-no_colon_in : (text : List ℕ) (ip : Ipv4Addr) → IsIpv4Text text ip → (i : ℕ) → i < length text → get_or text i 0 ≢ 58
-no_colon_in text ip is i within same = eqb-false (get_or text i 0) 58 (ip_avoids 58 text ip colon_is_no_digit refl is i 0 within) same
+pub ip_avoids : (k : ℕ) (text : List ℕ) (a : Ipv4Addr) → ¬ (IsInRange 48 57 k) → eqb 46 k ≡ false → IsIpv4Text text a → Avoids k text
+ip_avoids k text a out other is = dotted_avoids k text (ipv4_octets a) out other is
 
-pub no_colon : (word : List ℕ) (r : Cut) → IsSplitOnceResult 58 word r → r ≡ None → NoAddress word
-no_colon word r cut none (socket.V4 a) is = rw none at (split_after 58 word is.ip (decimal (v4_port a)) r cut (lit< tt) is.spelled
-    (no_colon_in is.ip (v4_ip a) is.ip_text))
-no_colon word r cut none (socket.V6 a) is = is
+-- ---- a machine
 
-address_parts : (word : List ℕ) (r : Cut) (x y : Bor (List ℕ)) → IsSplitOnceResult 58 word r → r ≡ Some (x, y) → (a : SocketAddrV4) (is : SpellsV4 word a)
-    → (x.now ≡ is.ip) × (y.now ≡ decimal (v4_port a))
-address_parts word r x y cut some a is = rw some at (split_after 58 word is.ip (decimal (v4_port a)) r cut (lit< tt) is.spelled
-    (no_colon_in is.ip (v4_ip a) is.ip_text))
+nothing_lacks : (c : ℕ) → Lacks c []
+nothing_lacks c i within = absurd (omega (arith, within))
 
-not_parsed : {E : Type 0} (text : List ℕ) (r : Result Ipv4Addr E) → Parses IsIpv4Text text r → result_ok r ≡ None → (ip : Ipv4Addr) → IsIpv4Text text ip → ⊥
-not_parsed text (Ok ip) parses none = cc
-not_parsed text (Err e) parses none = parses
+pub not_bracketed : (word : List ℕ) → ((rest : List ℕ) → word ≢ 91 ∷ rest) → NoBracketed word
+not_bracketed word never a is = never (is.inside ++ 93 ∷ []) is.spelled
 
-parsed : {E : Type 0} (text : List ℕ) (r : Result Ipv4Addr E) (ip : Ipv4Addr) → Parses IsIpv4Text text r → result_ok r ≡ Some ip → IsIpv4Text text ip
-parsed text (Ok x) ip parses some = subst (IsIpv4Text text) (ap (λ (o : Option Ipv4Addr). elim o [ None ↦ x | Some y ↦ y ]) some) parses
-parsed text (Err e) ip parses some = cc
+pub not_closed : (word rest : List ℕ) → word ≡ 91 ∷ rest → ((front : List ℕ) → rest ≢ front ++ 93 ∷ []) → NoBracketed word
+not_closed word rest begins never a is = never is.inside (ap (λ (l : List ℕ). drop 1 l) (sym begins ∙ is.spelled))
 
-pub not_ip : {E : Type 0} (word : List ℕ) (r : Cut) (x y : Bor (List ℕ)) (p : Result Ipv4Addr E) → IsSplitOnceResult 58 word r → r ≡ Some (x, y)
-    → Parses IsIpv4Text x.now p → result_ok p ≡ None → NoAddress word
-not_ip word r x y p cut some parses none (socket.V4 a) is =
-    not_parsed x.now p parses none (v4_ip a) (subst (λ (text : List ℕ). IsIpv4Text text (v4_ip a)) (sym (address_parts word r x y cut some a is).0) is.ip_text)
-not_ip word r x y p cut some parses none (socket.V6 a) is = is
+pub bracket_of_parse : {E : Type 0} (word rest inside : List ℕ) (p : Result Ipv6Addr E) → word ≡ 91 ∷ rest → rest ≡ inside ++ 93 ∷ []
+    → Parses IsIpv6Text inside p → MatchOption (result_ok p) (NoBracketed word) (SpellsBracketed word)
+bracket_of_parse word rest inside (Ok a) begins ends parses = record {
+  inside = inside;
+  spelled = begins ∙ ap (λ (l : List ℕ). 91 ∷ l) ends;
+  ip_text = parses;
+}
+bracket_of_parse word rest inside (Err e) begins ends never = λ a is.
+    let same : inside ++ 93 ∷ [] ≡ is.inside ++ 93 ∷ [] = sym ends ∙ ap (λ (l : List ℕ). drop 1 l) (sym begins ∙ is.spelled) in
+    never a (subst (λ (text : List ℕ). IsIpv6Text text a) (sym (last_split 93 inside [] is.inside [] (nothing_lacks 93) (nothing_lacks 93) same).0) is.ip_text)
 
-pub not_port : (word : List ℕ) (r : Cut) (x y : Bor (List ℕ)) → IsSplitOnceResult 58 word r → r ≡ Some (x, y) → NoNumber 16 y.now → NoAddress word
-not_port word r x y cut some never (socket.V4 a) is = never (v4_port a) is.fits (address_parts word r x y cut some a is).1
-not_port word r x y cut some never (socket.V6 a) is = is
+pub no_host : (word : List ℕ) → NoBracketed word → ((a : Ipv4Addr) → ¬ (IsIpv4Text word a)) → ¬ (IsHostName word) → NoHost word
+no_host word six four name (host.Ip (ip.V4 a)) is = four a is
+no_host word six four name (host.Ip (ip.V6 a)) is = six a is
+no_host word six four name (host.Name n) is = name is.0
 
-pub is_address : {E : Type 0} (word : List ℕ) (r : Cut) (x y : Bor (List ℕ)) (p : Result Ipv4Addr E) (ip : Ipv4Addr) (port : ℕ) (a : SocketAddrV4)
-    → IsSplitOnceResult 58 word r → r ≡ Some (x, y) → Parses IsIpv4Text x.now p → result_ok p ≡ Some ip → y.now ≡ decimal port → port < 2 ^ 16
-    → v4_ip a ≡ ip → v4_port a ≡ port → SpellsV4 word a
-is_address word r x y p ip port a cut some parses is_ip is_port small has_ip has_port =
-    let split : word ≡ x.now ++ (58 ∷ y.now) = (rw some at (split_parts 58 word r cut (lit< tt))).0 in
+-- ---- an address
+
+colon_is_no_digit : ¬ (IsInRange 48 57 58)
+colon_is_no_digit is = omega (arith, is.1)
+
+small_port : (n : ℕ) → n < 2 ^ 16 → n < 2 ^ 64
+small_port n small = let most : 2 ^ 16 < 2 ^ 64 = lit< tt in omega (arith, small, most)
+
+port_lacks : (n : ℕ) → n < 2 ^ 16 → Lacks 58 (decimal n)
+port_lacks n small i within = eqb-false (get_or (decimal n) i 0) 58 (avoids 58 n (small_port n small) colon_is_no_digit i 0 within)
+
+pub no_colon : (word : List ℕ) (r : Cut) → IsCut 58 word r → r ≡ None → NoAddress word
+no_colon word r cut none a is =
+    let lacks : Lacks 58 word = rw none at (cut_parts 58 word r cut (lit< tt)) in
+    cut_later 58 is.host_word (decimal a.port) word lacks is.spelled
+
+address_parts : (word : List ℕ) (r : Cut) (x y : Bor (List ℕ)) → IsCut 58 word r → r ≡ Some (x, y) → (a : Address) (is : SpellsAddress word a)
+    → (x.now ≡ is.host_word) × (y.now ≡ decimal a.port)
+address_parts word r x y cut some a is =
+    let parts : (word ≡ x.now ++ 58 ∷ y.now) × Lacks 58 y.now = rw some at (cut_parts 58 word r cut (lit< tt)) in
+    last_split 58 x.now y.now is.host_word (decimal a.port) parts.1 (port_lacks a.port is.fits) (sym parts.0 ∙ is.spelled)
+
+pub not_host : (word : List ℕ) (r : Cut) (x y : Bor (List ℕ)) → IsCut 58 word r → r ≡ Some (x, y) → NoHost x.now → NoAddress word
+not_host word r x y cut some never a is =
+    never a.host (subst (λ (text : List ℕ). SpellsHost text a.host) (sym (address_parts word r x y cut some a is).0) is.host)
+
+pub not_port : (word : List ℕ) (r : Cut) (x y : Bor (List ℕ)) → IsCut 58 word r → r ≡ Some (x, y) → NoNumber 16 y.now → NoAddress word
+not_port word r x y cut some never a is = never a.port is.fits (address_parts word r x y cut some a is).1
+
+pub is_address : (word : List ℕ) (r : Cut) (x y : Bor (List ℕ)) (a : Address) → IsCut 58 word r → r ≡ Some (x, y) → SpellsHost x.now a.host
+    → y.now ≡ decimal a.port → a.port < 2 ^ 16 → SpellsAddress word a
+is_address word r x y a cut some is_host is_port small =
+    let parts : (word ≡ x.now ++ 58 ∷ y.now) × Lacks 58 y.now = rw some at (cut_parts 58 word r cut (lit< tt)) in
     record {
-      ip = x.now;
-      spelled = split ∙ ap (λ (digits : List ℕ). x.now ++ (58 ∷ digits)) (is_port ∙ ap decimal (sym has_port));
-      ip_text = subst (IsIpv4Text x.now) (sym has_ip) (parsed x.now p ip parses is_ip);
-      fits = omega (arith, small, has_port);
+      host_word = x.now;
+      spelled = parts.0 ∙ ap (λ (digits : List ℕ). x.now ++ (58 ∷ digits)) is_port;
+      host = is_host;
+      fits = small;
     }
 
 -- ---- a peer

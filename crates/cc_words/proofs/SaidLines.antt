@@ -12,20 +12,23 @@ use Rattle.std.specs.Prelude.{IfOk, IfErr}
 use Rattle.std.specs.Fmt.{decimal}
 use Rattle.std.specs.Int.{IsInRange}
 use Rattle.std.specs.List.{cons_option, join_with_byte, slice_split, take-map}
-use Rattle.std.specs.Net.Socket.{v4_ip, v4_port}
-use Rattle.std.specs.declared.net.socket_addr.SocketAddr.{SocketAddr}
-use Rattle.std.specs.declared.net.socket_addr.SocketAddr.TheVariants as socket
+use Rattle.std.specs.declared.net.ip_addr.IpAddr.TheVariants as ip
 use Rattle.std.proofs.Math.Dec.{eqb}
 use Rattle.std.proofs.lemmas.List.{get_or-map, length-map}
 use Rattle.std.proofs.lemmas.List.Elements.{All-cons}
 use Rattle.std.proofs.lemmas.List.Splits.{slice_split_at, slice_split_none}
-use Rattle.cc_frames.specs.declared.peer.Peer.{Peer}
-use Rattle.cc_words.specs.Addresses.{SpellsAddress, SpellsPeer, ArePeers, SpellsPeers}
+use Rattle.cc_addresses.specs.declared.hosts.Host.{Host}
+use Rattle.cc_addresses.specs.declared.hosts.Host.TheVariants as host
+use Rattle.cc_addresses.specs.declared.peer.Address.{Address}
+use Rattle.cc_addresses.specs.declared.peer.Peer.{Peer}
+use Rattle.cc_words.specs.Addresses.{SpellsHost, SpellsAddress, SpellsPeer, ArePeers, SpellsPeers}
 use Rattle.cc_words.specs.PeerLines.{said_in, said_on, lines_of, said_lines, list_of_lines, IsNoPeerLine, IsFaultAt, IsFirstFault, HaveNoComma}
 use Rattle.cc_words.specs.declared.peer_lines.LineFault.{LineFault}
 use Rattle.cc_words.specs.declared.peer_lines.LineFault.TheVariants as fault
-use Rattle.cc_words.proofs.AddressWords.{Avoids, ip_avoids, joined}
+use Rattle.cc_words.proofs.AddressWords.{Avoids, one, joined, ip_avoids}
 use Rattle.cc_words.proofs.Digits.{fits}
+use Rattle.cc_words.proofs.HostNames.{name_avoids}
+use Rattle.cc_words.proofs.Ipv6Words.{IsOther, six_avoids}
 use Rattle.cc_words.proofs.Parts.{avoids}
 
 are_push : (words : List (List ℕ)) (peers : List Peer) (word : List ℕ) (p : Peer) → ArePeers words peers → SpellsPeer word p
@@ -57,16 +60,32 @@ said_more text (l ∷ lines) (suc i) d within = more (said_in (text l)) _ _ _ (s
 comma_is_no_digit : ¬ (IsInRange 48 57 44)
 comma_is_no_digit is = omega (arith, is.0)
 
+comma_is_other : IsOther 44
+comma_is_other = record {
+  no_digit = comma_is_no_digit;
+  no_hex = λ is. let small : 36 < 16 = is in omega (arith, small);
+  no_dot = refl;
+  no_colon = refl;
+}
+
+host_avoids : (word : List ℕ) (h : Host) → SpellsHost word h → Avoids 44 word
+host_avoids word (host.Ip (ip.V4 a)) is = ip_avoids 44 word a comma_is_no_digit refl is
+host_avoids word (host.Ip (ip.V6 a)) is =
+    subst (Avoids 44) (sym is.spelled) (
+    All-cons (λ b. eqb b 44 ≡ false) 91 (is.inside ++ 93 ∷ []) refl
+    (joined 44 is.inside (93 ∷ []) (six_avoids 44 comma_is_other is.inside a is.ip_text) (one 44 93 refl))
+    )
+host_avoids word (host.Name n) is = name_avoids 44 refl word is.0.bytes
+
 small_port : (n : ℕ) → n < 2 ^ 16 → n < 2 ^ 64
 small_port n small = let most : 2 ^ 16 < 2 ^ 64 = lit< tt in omega (arith, small, most)
 
-address_avoids : (word : List ℕ) (a : SocketAddr) → SpellsAddress word a → Avoids 44 word
-address_avoids word (socket.V4 a) is =
+address_avoids : (word : List ℕ) (a : Address) → SpellsAddress word a → Avoids 44 word
+address_avoids word a is =
     subst (Avoids 44) (sym is.spelled) (
-    joined 44 is.ip (58 ∷ decimal (v4_port a)) (ip_avoids 44 is.ip (v4_ip a) comma_is_no_digit refl is.ip_text)
-    (All-cons (λ b. eqb b 44 ≡ false) 58 (decimal (v4_port a)) refl (avoids 44 (v4_port a) (small_port (v4_port a) is.fits) comma_is_no_digit))
+    joined 44 is.host_word (58 ∷ decimal a.port) (host_avoids is.host_word a.host is.host)
+    (All-cons (λ b. eqb b 44 ≡ false) 58 (decimal a.port) refl (avoids 44 a.port (small_port a.port is.fits) comma_is_no_digit))
     )
-address_avoids word (socket.V6 a) is = absurd is
 
 peer_avoids : (word : List ℕ) (p : Peer) → SpellsPeer word p → Avoids 44 word
 peer_avoids word p is =

@@ -1,32 +1,47 @@
 -- The words of addresses, and of peers with their addresses.
---     SpellsV4, SpellsAddress      an IPv4 address in dotted decimal, a colon and a port
---     NoAddress                    not a word of one
---     NoId                         not the digits of an id
---     SpellsPeer, NoPeer           an id, an equals sign and an address;  not a word of one
---     ArePeers, NonePeers          each word is a peer;  they aren't any peers
---     SpellsPeers, NoPeers         peers with a comma between each two;  not a word of these
-use Rattle.std.specs.Prelude.{◌≡◌, ◌≢◌, ◌≤◌, ◌<◌, ◌^◌, ◌==◌, ℕ, List, ◌∷◌, ◌++◌}
+--     SpellsBracketed, NoBracketed     an IPv6 address in brackets;  not a word of one
+--     SpellsHost, NoHost               an IPv4 address in dotted decimal, an IPv6 address in brackets, or a name;  not a word of one
+--     SpellsAddress, NoAddress         a machine, a colon and a port;  not a word of one
+--     NoId                             not the digits of an id
+--     SpellsPeer, NoPeer               an id, an equals sign and an address;  not a word of one
+--     ArePeers, NonePeers              each word is a peer;  they aren't any peers
+--     SpellsPeers, NoPeers             peers with a comma between each two;  not a word of these
+use Rattle.std.specs.Prelude.{◌≡◌, ◌≢◌, ◌≤◌, ◌<◌, ◌^◌, ◌==◌, ℕ, List, [], ◌∷◌, ◌++◌}
 use Rattle.std.specs.Fmt.{decimal}
 use Rattle.std.specs.List.{AllZip, slice_split}
-use Rattle.std.specs.Net.Grammar.{IsIpv4Text}
-use Rattle.std.specs.Net.Socket.{v4_ip, v4_port}
-use Rattle.std.specs.declared.net.socket_addr.SocketAddr.{SocketAddr}
-use Rattle.std.specs.declared.net.socket_addr.SocketAddr.TheVariants as socket
-use Rattle.std.specs.declared.net.socket_addr.SocketAddrV4.{SocketAddrV4}
-use Rattle.cc_frames.specs.declared.peer.Peer.{Peer}
+use Rattle.std.specs.Net.Grammar.{IsIpv4Text, IsIpv6Text}
+use Rattle.std.specs.declared.net.ip_addr.IpAddr.TheVariants as ip
+use Rattle.std.specs.declared.net.ipv6_addr.Ipv6Addr.{Ipv6Addr}
+use Rattle.cc_addresses.specs.Hosts.{IsHostName, host_name}
+use Rattle.cc_addresses.specs.declared.hosts.Host.{Host}
+use Rattle.cc_addresses.specs.declared.hosts.Host.TheVariants as host
+use Rattle.cc_addresses.specs.declared.peer.Address.{Address}
+use Rattle.cc_addresses.specs.declared.peer.Peer.{Peer}
 
-pub record SpellsV4 (word : List ℕ) (a : SocketAddrV4) : Type 0 where
-  pub ip : List ℕ
-  pub spelled : word ≡ ip ++ 58 ∷ decimal (v4_port a)
-  pub ip_text : IsIpv4Text ip (v4_ip a)
-  pub fits : v4_port a < 2 ^ 16
+pub record SpellsBracketed (word : List ℕ) (a : Ipv6Addr) : Type 0 where
+  pub inside : List ℕ
+  pub spelled : word ≡ 91 ∷ (inside ++ 93 ∷ [])
+  pub ip_text : IsIpv6Text inside a
 
-abbrev pub SpellsAddress : List ℕ → SocketAddr → Type 0
-SpellsAddress word (socket.V4 a) = SpellsV4 word a
-SpellsAddress word (socket.V6 a) = ⊥
+abbrev pub NoBracketed : List ℕ → Type 0
+NoBracketed word = (a : Ipv6Addr) → SpellsBracketed word a → ⊥
+
+abbrev pub SpellsHost : List ℕ → Host → Type 0
+SpellsHost word (host.Ip (ip.V4 a)) = IsIpv4Text word a
+SpellsHost word (host.Ip (ip.V6 a)) = SpellsBracketed word a
+SpellsHost word (host.Name n) = IsHostName word × (host_name n ≡ word)
+
+abbrev pub NoHost : List ℕ → Type 0
+NoHost word = (h : Host) → SpellsHost word h → ⊥
+
+pub record SpellsAddress (word : List ℕ) (a : Address) : Type 0 where
+  pub host_word : List ℕ
+  pub spelled : word ≡ host_word ++ 58 ∷ decimal a.port
+  pub host : SpellsHost host_word a.host
+  pub fits : a.port < 2 ^ 16
 
 abbrev pub NoAddress : List ℕ → Type 0
-NoAddress word = (a : SocketAddr) → SpellsAddress word a → ⊥
+NoAddress word = (a : Address) → SpellsAddress word a → ⊥
 
 pub record SpellsPeer (word : List ℕ) (p : Peer) : Type 0 where
   pub address_word : List ℕ

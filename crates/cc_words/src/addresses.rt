@@ -2,27 +2,52 @@
 
 ghost use Rattle.std.specs.Prelude.{◌≡◌, ◌≤◌, ◌<◌, ◌^◌, map, IfOk, MatchOption};
 ghost use Rattle.std.specs.Fmt.{decimal};
-ghost use Rattle.cc_words.specs.Addresses.{SpellsAddress, NoAddress, NoId, SpellsPeer, NoPeer, ArePeers, NonePeers, SpellsPeers, NoPeers};
+ghost use Rattle.cc_words.specs.Addresses.{SpellsAddress, NoAddress, SpellsHost, NoHost, SpellsBracketed, NoBracketed, NoId, SpellsPeer, NoPeer, ArePeers};
+ghost use Rattle.cc_words.specs.Addresses.{NonePeers, SpellsPeers, NoPeers};
 
 use crate::numbers::{port_number, small_number};
-use cc_frames::Peer;
+use cc_addresses::{Address, Host, HostName, Peer};
 use cc_views::NodeId;
 use std::alloc::{AllocError, Global};
-use std::net::{Ipv4Addr, SocketAddr, SocketAddrV4};
+use std::net::{IpAddr, Ipv6Addr};
 
-/// The IPv4 address and port that a word is, as `127.0.0.1:7001`: all numbers in plain decimal digits without leading
-/// zeros. None for any other word.
-pub fn address(word: &str) -> Option<SocketAddr>
+/// The address that a word is: `127.0.0.1:7001`, `[::1]:7001` or `node-1.example:7001`. The numbers of an IPv4 address and
+/// the port are in plain decimal digits without leading zeros. None for any other word.
+pub fn address(word: &str) -> Option<Address>
     ensures { MatchOption result (NoAddress word.now) (SpellsAddress word.now) }
 {
-    let (ip, port) = word.split_once(':')?;
-    let ip: Ipv4Addr = ip.parse().ok()?;
-    let port = port_number(port)?;
-    Some(SocketAddr::V4(SocketAddrV4::new(ip, port)))
+    let (host, port) = word.rsplit_once(':')?;
+    Some(Address {
+        host: host_in(host)?,
+        port: port_number(port)?,
+    })
 }
 
-/// The peers, one or more, that a word is, as `2=127.0.0.1:7002,3=127.0.0.1:7003`: ids from 1 on with their addresses.
-/// None for any other word.
+// The machine that a word is.
+fn host_in(word: &str) -> Option<Host>
+    ensures { MatchOption result (NoHost word.now) (SpellsHost word.now) }
+{
+    if let Some(ip) = bracketed(word) {
+        return Some(Host::Ip(IpAddr::V6(ip)));
+    }
+    if let Ok(ip) = word.parse() {
+        return Some(Host::Ip(IpAddr::V4(ip)));
+    }
+    let name = HostName::new(word)?;
+    Some(Host::Name(name))
+}
+
+// The IPv6 address that stands in brackets.
+fn bracketed(word: &str) -> Option<Ipv6Addr>
+    ensures { MatchOption result (NoBracketed word.now) (SpellsBracketed word.now) }
+{
+    let opened = word.strip_prefix('[')?;
+    let inside = opened.strip_suffix(']')?;
+    inside.parse().ok()
+}
+
+/// The peers, one or more, that a word is, as `2=127.0.0.1:7002,3=[::1]:7003`: ids from 1 on with their addresses. None for any
+/// other word.
 pub fn peers(alloc: Global, word: &str) -> Result<Option<Vec<Peer>>, AllocError>
     ensures { IfOk result (λ o. MatchOption o (NoPeers word.now) (λ v. SpellsPeers word.now v.items)) }
 {

@@ -10,7 +10,6 @@ mod numbers;
 mod peer_lines;
 
 pub use addresses::{address, peers};
-pub use cc_frames::Peer;
 pub use commands::{command, store_of};
 pub use fractions::fraction;
 pub use lists::list;

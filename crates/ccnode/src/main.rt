@@ -8,7 +8,7 @@ use cc_arguments::{Order, parse};
 use cc_orders::{LogLevel, RunWords};
 use cc_terminal::{
     BAD_COMMAND_LINE, Lines, NotingRuntime, StandIns, ask, dump, format, leave, load, play_input,
-    retire, status,
+    retire, share, status,
 };
 use running::run;
 use std::process::ExitCode;
@@ -55,6 +55,10 @@ fn obey(rt: &HostRuntime, order: Order<'_>) -> anyhow::Result<ExitCode> {
         Order::Ask(words) => ask(rt, &words),
         Order::Leave { address } => leave(rt, address),
         Order::Retire(words) => retire(rt, &words),
+        Order::Share {
+            address,
+            share: number,
+        } => share(rt, address, number),
         Order::Status {
             address,
             form,

@@ -29,6 +29,8 @@ mod refusals;
 #[cfg(test)]
 mod reopenings;
 #[cfg(test)]
+mod reshares;
+#[cfg(test)]
 mod shared_rounds;
 #[cfg(test)]
 mod sites;

@@ -7,7 +7,7 @@ ghost use Rattle.cc_node.specs.Refusals.{decides};
 ghost use Rattle.cc_journal.specs.Batches.{AreLawful, events_in};
 
 use cc_journal::{Batch, Entry};
-use cc_messages::{Command, Event, Message};
+use cc_messages::{Command, Event, Message, Share};
 use cc_node::{Core, Node};
 use cc_views::{NodeId, Text};
 use std::process::Abort;
@@ -15,7 +15,7 @@ use std::process::Abort;
 /// Which batch is committed: the node's Enter; the ask of a store in session 7, as its first request; that ask, its post as
 /// it comes back and the acknowledgement of that; the two deliveries that follow the ask; the ask of a collect after them;
 /// the first ask of a session, which sets the flag; the own post of that number, as it comes back; a lapse of what is kept
-/// for the node itself, and its snapshot; the snapshot alone; or the node's leaving.
+/// for the node itself, and its snapshot; the snapshot alone; the node's leaving; or the share that it is told.
 #[derive(Clone, Copy)]
 pub enum Part {
     Enter,
@@ -28,6 +28,7 @@ pub enum Part {
     Away,
     Snapshot,
     Leave,
+    Share(u8),
 }
 
 /// The first event of a part.
@@ -50,6 +51,9 @@ pub fn first_of<R: Abort + AllocGlobal>(rt: &R, node: &Node, part: Part) -> Even
         Part::Away => Event::Lapse { node: id(1) },
         Part::Snapshot => Event::Snapshot,
         Part::Leave => Event::Leave,
+        Part::Share(asks) => Event::Share {
+            share: Share::new(asks).expect(rt, "a share"),
+        },
     }
 }
 

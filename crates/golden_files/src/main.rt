@@ -18,7 +18,7 @@ use std::fs;
 use std::process::ExitCode;
 
 // The files of the data folder, without their ending.
-const CHAPTERS: [&str; 20] = [
+const CHAPTERS: [&str; 21] = [
     "clusters",
     "after_a_store",
     "crashes",
@@ -35,6 +35,7 @@ const CHAPTERS: [&str; 20] = [
     "snapshots",
     "skips",
     "rounds",
+    "reshare",
     "long_rounds",
     "cluster_rounds",
     "five_nodes",

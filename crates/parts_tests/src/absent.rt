@@ -57,7 +57,7 @@ fn kinds_between_are_of_no_message_or_event(rt: HostRuntime) {
         assert!(rt; event_fault(rt.alloc(), &[kind]) == Some(WireFault::BadKind(kind)));
     }
     assert!(rt; message_fault(rt.alloc(), &[33]) == Some(WireFault::BadKind(33)));
-    assert!(rt; event_fault(rt.alloc(), &[35]) == Some(WireFault::BadKind(35)));
+    assert!(rt; event_fault(rt.alloc(), &[36]) == Some(WireFault::BadKind(36)));
 }
 
 #[test]

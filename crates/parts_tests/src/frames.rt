@@ -124,11 +124,13 @@ fn a_bad_length_breaks_a_stream(rt: HostRuntime) {
     assert!(rt; empty == (Some(WireFault::Short), broken));
 }
 
-// A frame of each kind: Leave, an Ack, a Post of Leave 1, Retire 9, RetireIfSilent 9, Skip 2 1 3, and then those above.
-const STREAM: [u8; 163] = [
+// A frame of each kind: Leave, an Ack, a Post of Leave 1, Retire 9, RetireIfSilent 9, Skip 2 1 3, Share 8, and then those
+// above.
+const STREAM: [u8; 169] = [
     0, 0, 0, 1, 6, 0, 0, 0, 0x0D, 2, 0, 0, 0, 2, 0, 0, 0, 0, 0, 0, 0, 3, 0, 0, 0, 0x12, 1, 0, 0, 0,
     1, 0, 0, 0, 0, 0, 0, 0, 1, 5, 0, 0, 0, 1, 0, 0, 0, 5, 7, 0, 0, 0, 9, 0, 0, 0, 5, 0x24, 0, 0, 0,
-    9, 0, 0, 0, 0x15, 0x20, 0, 0, 0, 2, 0, 0, 0, 0, 0, 0, 0, 1, 0, 0, 0, 0, 0, 0, 0, 3, // the Ask
+    9, 0, 0, 0, 0x15, 0x20, 0, 0, 0, 2, 0, 0, 0, 0, 0, 0, 0, 1, 0, 0, 0, 0, 0, 0, 0, 3, 0, 0, 0, 2,
+    0x25, 8, // the Ask
     0, 0, 0, 0x14, 3, 0, 0, 0, 0, 0, 0, 0, 7, 0, 0, 0, 0, 0, 0, 0, 1, 1, 1, 0x61, // the Reply
     0, 0, 0, 0x12, 4, 0, 0, 0, 0, 0, 0, 0, 7, 0, 0, 0, 0, 0, 0, 0, 1, 1, // the Refused
     0, 0, 0, 0x1A, 5, 0, 0, 0, 0, 0, 0, 0, 7, 0, 0, 0, 0, 0, 0, 0, 3, 0x0C, 0, 0, 0, 0, 0, 0, 0, 1,
@@ -160,7 +162,7 @@ fn write_frames<R: Abort + AllocGlobal>(
     out: &mut Vec<u8>,
 ) {
     let mut rest = piece;
-    for _ in 0..10 {
+    for _ in 0..11 {
         let used = write_frame(rt, reader, rest, out);
         rest = &rest[used..];
     }

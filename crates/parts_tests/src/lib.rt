@@ -33,6 +33,8 @@ mod sessions;
 #[cfg(test)]
 mod sets;
 #[cfg(test)]
+mod shares;
+#[cfg(test)]
 mod shown;
 #[cfg(test)]
 mod skips;

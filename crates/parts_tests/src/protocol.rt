@@ -5,6 +5,7 @@ mod admission;
 mod bytes;
 mod calling;
 mod clients;
+mod connecting;
 mod duties;
 mod frames;
 mod incoming;

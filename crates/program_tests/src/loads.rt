@@ -158,7 +158,7 @@ fn session_of<R: Abort + AllocGlobal>(rt: &R, client: u64) -> Option<(u16, u64)>
     let found = order.session_of(client);
     drop(order);
     match found {
-        Some((address, session)) => Some((address.port(), session)),
+        Some((address, session)) => Some((address.port, session)),
         None => None,
     }
 }

@@ -1,15 +1,16 @@
 //! The words of the command line.
 
+use cc_addresses::{Address, Host, Peer};
 use cc_changes::Fraction;
 use cc_commands::FormatOrder;
 use cc_messages::Command;
 use cc_orders::{
     AnswerForm, AskOrder, AskWords, FormatWords, LeaveOrder, LogLevel, RetireOrder, RetireWords,
-    RunOrder, RunWords, StatusOrder, WordFault,
+    RunOrder, RunWords, ShareOrder, StatusOrder, WordFault,
 };
 use cc_views::NodeId;
-use cc_words::{Peer, fraction, list, number, small_number};
-use std::net::{Ipv4Addr, SocketAddr, SocketAddrV4};
+use cc_words::{fraction, list, number, small_number};
+use std::net::{IpAddr, Ipv4Addr};
 use std::process::Abort;
 
 // Words that are no number.
@@ -82,8 +83,11 @@ fn fractions_are_numbers_and_a_slash(rt: HostRuntime) {
     assert!(rt; fraction("5/0") == Some(Fraction { num: 5, den: 0 }));
 }
 
-fn local(port: u16) -> SocketAddr {
-    SocketAddr::V4(SocketAddrV4::new(Ipv4Addr::new(127, 0, 0, 1), port))
+fn local(port: u16) -> Address {
+    Address {
+        host: Host::Ip(IpAddr::V4(Ipv4Addr::new(127, 0, 0, 1))),
+        port,
+    }
 }
 
 // A node that runs by its address alone. Words are made by a call: a constant of them costs more to prove wherever it is named.
@@ -192,7 +196,7 @@ fn one_file_serves_all_nodes(rt: HostRuntime) {
 fn tells<R: Abort + AllocGlobal>(
     rt: &R,
     words: &RunWords<'_>,
-    status: Option<SocketAddr>,
+    status: Option<Address>,
     log: LogLevel,
 ) -> bool {
     let order = RunOrder::parse(rt.alloc(), words, None).expect(rt, "an order");
@@ -235,7 +239,7 @@ fn run_notes_by_levels(rt: HostRuntime) {
 fn guards<R: Abort + AllocGlobal>(
     rt: &R,
     words: &RunWords<'_>,
-    listen_clients: Option<SocketAddr>,
+    listen_clients: Option<Address>,
     remote_operators: bool,
 ) -> bool {
     let order = RunOrder::parse(rt.alloc(), words, None).expect(rt, "an order");
@@ -531,6 +535,22 @@ fn the_operator_names_a_node(rt: HostRuntime) {
     assert!(rt; LeaveOrder::parse("").err() == Some(WordFault::Address));
     let refused = StatusOrder::parse("8001", AnswerForm::Plain, false).err();
     assert!(rt; refused == Some(WordFault::Address));
+}
+
+// The share that a node there is to have.
+fn share_told(address: &str, word: &str) -> Result<u8, WordFault> {
+    let order = ShareOrder::parse(address, word)?;
+    Ok(order.share.asks())
+}
+
+#[test]
+fn a_share_is_a_number_from_1_to_32(rt: HostRuntime) {
+    let good = ["1", "8", "32"].map(|word| share_told(ADDRESS, word).ok());
+    assert!(rt; good == [Some(1), Some(8), Some(32)]);
+    for word in ["0", "33", "257", "4294967297", "08", "-1", "a", ""] {
+        assert!(rt; share_told(ADDRESS, word).err() == Some(WordFault::NewShare));
+    }
+    assert!(rt; share_told("7001", "8").err() == Some(WordFault::Address));
 }
 
 /// The words of a node of that id alone.

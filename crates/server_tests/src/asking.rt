@@ -1,10 +1,12 @@
 //! Clients of a node that runs: what they print, and the status that they end with.
 
 use crate::nodes::{Places, free_address, run, set_up, while_two_run};
+use cc_addresses::Address;
 use cc_channels::Stop;
-use cc_client::{Silence, Told, ask_node, leave_node, retire_node};
+use cc_client::{Silence, Told, ask_node, leave_node, retire_node, share_node};
 use cc_intake::NoHooks;
-use cc_orders::{AnswerForm, AskOrder, LeaveOrder, RetireOrder};
+use cc_messages::Share;
+use cc_orders::{AnswerForm, AskOrder, LeaveOrder, RetireOrder, ShareOrder};
 use cc_views::NodeId;
 use cc_words::command;
 use std::alloc::Global;
@@ -136,7 +138,7 @@ pub(crate) fn retirement<R: Abort + AllocGlobal>(
     even_alive: bool,
 ) -> RetireOrder {
     RetireOrder {
-        addresses: vec![in rt.alloc(); address].expect(rt, "room"),
+        addresses: vec![in rt.alloc(); Address::from(address)].expect(rt, "room"),
         node: NodeId::new(node).expect(rt, "an id"),
         even_alive,
     }
@@ -150,7 +152,26 @@ fn is_left<R: Net<Stream = TcpStream> + Clock>(
     wanted: &str,
 ) -> bool {
     let mut output = Vec::new(alloc);
-    let ended = leave_node(rt, alloc, &LeaveOrder { address }, &mut output);
+    let order = LeaveOrder {
+        address: Address::from(address),
+    };
+    let ended = leave_node(rt, alloc, &order, &mut output);
+    is_told(ended, &output, told, wanted)
+}
+
+// Tells a node its share, and whether the client ends so, and prints this.
+fn is_shared<R: Abort + AllocGlobal + Net<Stream = TcpStream> + Clock>(
+    rt: &R,
+    address: SocketAddr,
+    told: Told,
+    wanted: &str,
+) -> bool {
+    let order = ShareOrder {
+        address: Address::from(address),
+        share: Share::new(8).expect(rt, "a share"),
+    };
+    let mut output = Vec::new(rt.alloc());
+    let ended = share_node(rt, rt.alloc(), &order, &mut output);
     is_told(ended, &output, told, wanted)
 }
 
@@ -162,7 +183,7 @@ pub(crate) fn order<R: Abort>(
     timeout: u64,
 ) -> AskOrder {
     let command = command(words).expect(rt, "a command");
-    AskOrder::new(address, 7, command, timeout)
+    AskOrder::new(Address::from(address), 7, command, timeout)
 }
 
 /// A client of session 7 asks, and prints this.
@@ -232,7 +253,14 @@ fn talk<R: Abort + AllocGlobal + Net<Stream = TcpStream> + Clock>(rt: &R, one: S
     ask_all(rt, one);
     ask_for_json(rt, one);
     ask_for_snapshots(rt, one);
+    for _ in 0..2 {
+        assert!(rt; is_shared(rt, one, DONE, "share 8\n"), "a share");
+    }
     operate(rt, one);
+    assert!(rt;
+        is_shared(rt, one, REFUSED, "refused 1 Left\n"),
+        "a share of who has left"
+    );
     let late = order(rt, one, &["collect"], 20);
     assert!(rt;
         is_asked(rt, rt.alloc(), &late, REFUSED, "refused 1 Left\n"),
@@ -267,7 +295,7 @@ fn check_no_answer<R: Abort + AllocGlobal + Net<Stream = TcpStream> + Clock>(
 ) {
     let closed = Told {
         status: 1,
-        silence: Some(Silence::Closed(nobody)),
+        silence: Some(Silence::Closed(Address::from(nobody))),
         advice: None,
     };
     let plain = order(rt, nobody, &["collect"], 1);

@@ -20,6 +20,8 @@ mod hostile;
 #[cfg(test)]
 mod loading;
 #[cfg(test)]
+mod names;
+#[cfg(test)]
 mod nodes;
 #[cfg(test)]
 mod pages;

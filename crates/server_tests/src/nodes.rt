@@ -1,5 +1,6 @@
 //! Nodes on loopback.
 
+use cc_addresses::{Address, Peer};
 use cc_channels::Stop;
 use cc_commands::{FormatOrder, format_folder};
 use cc_intake::{Finished, Hooks};
@@ -7,7 +8,6 @@ use cc_orders::FormatWords;
 use cc_server::{Config, RunFault, run_on};
 use cc_shared::ReadText;
 use cc_views::NodeId;
-use cc_words::Peer;
 use log::Log;
 use std::alloc::{AllocError, Global};
 use std::fs::{File, Files};
@@ -174,13 +174,13 @@ pub(crate) fn config_of<'a>(
 ) -> Result<Config<'a>, AllocError> {
     Ok(Config {
         dir: setting.folder,
-        listen: setting.listen,
-        listen_clients: setting.listen_clients,
+        listen: Address::from(setting.listen),
+        listen_clients: setting.listen_clients.map(Address::from),
         remote_operators: setting.remote_operators,
         answers_to_all: false,
         peers: peers_of(alloc, setting.peers)?,
         peers_file: setting.peers_file,
-        status: setting.status,
+        status: setting.status.map(Address::from),
         version: "1",
     })
 }
@@ -189,6 +189,7 @@ fn peers_of(alloc: Global, places: &[(u32, SocketAddr)]) -> Result<Vec<Peer>, Al
     let mut peers = Vec::new(alloc);
     for &(number, address) in places {
         if let Some(id) = NodeId::new(number) {
+            let address = Address::from(address);
             peers.push(Peer { id, address })?;
         }
     }

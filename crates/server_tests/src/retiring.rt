@@ -18,6 +18,14 @@ const REFUSED: [u8; 30] = [
     0, 0, 0, 26, 5, 0, 0, 0, 0, 0, 0, 0, 0, 0, 0, 0, 0, 0, 0, 0, 0, 1, 0, 0, 0, 0, 0, 0, 0, 0,
 ];
 
+// Up to 8 asks are to begin together, twice over one connection.
+const SHARE_TWICE: [u8; 12] = [0, 0, 0, 2, 37, 8, 0, 0, 0, 2, 37, 8];
+
+// The second request is refused: NothingToAck.
+const SAME_SHARE: [u8; 30] = [
+    0, 0, 0, 26, 5, 0, 0, 0, 0, 0, 0, 0, 0, 0, 0, 0, 0, 0, 0, 0, 0, 7, 0, 0, 0, 0, 0, 0, 0, 0,
+];
+
 // Nothing was asked in session 7, so a request under number 3 is refused: Skip.
 const SKIPPED: [u8; 30] = [
     0, 0, 0, 26, 5, 0, 0, 0, 0, 0, 0, 0, 7, 0, 0, 0, 0, 0, 0, 0, 3, 12, 0, 0, 0, 0, 0, 0, 0, 0,
@@ -47,18 +55,29 @@ impl Hooks for Syncs {
     }
 }
 
-// Once the node serves: the first request makes nothing that anyone waits for, and yet its two syncs are made before the
-// second is answered.
+// Once the node serves: it is told to retire another, and then its share.
 fn retire<R: Abort + AllocGlobal + Net<Stream = TcpStream>>(
     rt: &R,
     one: SocketAddr,
     syncs: &Syncs,
 ) {
     exchange(rt, one, &THIRD_ASK, &SKIPPED);
+    tell_twice(rt, one, syncs, &RETIRE_TWICE, &REFUSED);
+    tell_twice(rt, one, syncs, &SHARE_TWICE, &SAME_SHARE);
+}
+
+// The first request makes nothing that anyone waits for, and yet its two syncs are made before the second is answered.
+fn tell_twice<R: Abort + AllocGlobal + Net<Stream = TcpStream>>(
+    rt: &R,
+    one: SocketAddr,
+    syncs: &Syncs,
+    both: &[u8],
+    refused: &[u8],
+) {
     let mut stream = connected(rt, one);
     let before = syncs.count();
-    stream.write_all(&RETIRE_TWICE).expect(rt, "both are sent");
-    reads(rt, &mut stream, &REFUSED);
+    stream.write_all(both).expect(rt, "both are sent");
+    reads(rt, &mut stream, refused);
     let made = syncs.count().saturating_sub(before);
     assert!(rt; made >= 2, "what is told is durable");
 }

@@ -2,10 +2,10 @@
 //! writer.
 
 use crate::nodes::{Place, free_place};
+use cc_addresses::{Address, Peer};
 use cc_channels::{Flag, PeerChannels, Waker, channels_to, write_peer};
 use cc_protocol::Parcel;
 use cc_views::NodeId;
-use cc_words::Peer;
 use crossbeam_utils::sync::Parker;
 use std::alloc::Global;
 use std::io::Read;
@@ -101,7 +101,7 @@ fn a_peer_that_reads_late_gets_all_in_order(rt: HostRuntime) {
     let Place { listener, address } = free_place(&rt);
     let peer = Peer {
         id: node(&rt, 2),
-        address,
+        address: Address::from(address),
     };
     let (channels, mut ends) = channels_to(alloc, &[peer]).expect(&rt, "room");
     let end = ends.pop().expect(&rt, "an end");

@@ -1,7 +1,7 @@
 //! What connections may bring.
 
 use crate::sets::id;
-use cc_messages::{Command, Event, Message};
+use cc_messages::{Command, Event, Message, Share};
 use cc_protocol::{Access, Origin};
 
 /// What may bring everything.
@@ -69,6 +69,7 @@ fn heard(event: Event) -> [bool; 3] {
 #[test]
 fn a_frame_is_of_a_client_a_node_or_the_operator(rt: HostRuntime) {
     let node = id(2);
+    let share = Share::new(8).expect(&rt, "a share");
     let asked = Event::Ask {
         session: 7,
         request: 1,
@@ -89,6 +90,7 @@ fn a_frame_is_of_a_client_a_node_or_the_operator(rt: HostRuntime) {
         heard(acked),
         heard(Event::Leave),
         heard(Event::Retire { node }),
+        heard(Event::Share { share }),
         heard(Event::Snapshot),
     ];
     let of_client = [true, false, false];
@@ -100,6 +102,7 @@ fn a_frame_is_of_a_client_a_node_or_the_operator(rt: HostRuntime) {
                 of_client,
                 of_node,
                 of_node,
+                of_operator,
                 of_operator,
                 of_operator,
                 [false; 3]

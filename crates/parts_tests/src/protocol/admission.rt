@@ -2,7 +2,7 @@
 
 use crate::node::machine::{fresh, opening, take};
 use crate::sets::id;
-use cc_messages::{Command, Event, Message};
+use cc_messages::{Command, Event, Message, Share};
 use cc_node::Node;
 use cc_protocol::{is_furthest_behind, is_given_up, may_hand_over};
 use cc_views::NodeId;
@@ -104,6 +104,8 @@ fn what_posts_nothing_is_never_held_back(rt: HostRuntime) {
     };
     check_handing(&rt, acked, &NEVER_HELD);
     check_handing(&rt, Event::Retire { node }, &NEVER_HELD);
+    let share = Share::new(8).expect(&rt, "a share");
+    check_handing(&rt, Event::Share { share }, &NEVER_HELD);
     let join_echo = delivered(node, Message::JoinEcho { node });
     check_handing(&rt, join_echo, &NEVER_HELD);
     let leave_echo = delivered(node, Message::LeaveEcho { node });

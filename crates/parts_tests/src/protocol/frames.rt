@@ -3,10 +3,10 @@
 use crate::protocol::bytes::{ASK, SKIPPED, STORED, is_spelled};
 use crate::sets::id;
 use cc_frames::{Frame, decode_frame};
-use cc_messages::{Answer, Command, Event, Message, PostRange, Refusal};
+use cc_messages::{Answer, Command, Event, Message, PostRange, Refusal, Share};
 use cc_protocol::{
     Bundle, Due, Objection, Outcome, Parcel, ack_frame, due_bytes, event_of, objection_frame,
-    outcome_of, refused_frame, reply_bytes, skip_bytes,
+    outcome_of, refused_frame, reply_bytes, share_outcome_of, skip_bytes,
 };
 use cc_views::NodeId;
 use std::process::Abort;
@@ -24,6 +24,7 @@ enum About {
     Lapse(u32),
     Snapshot,
     Skip(u32, u64, u64),
+    Share(u8),
 }
 
 fn about_frame(frame: Frame) -> About {
@@ -53,6 +54,7 @@ fn about_event(event: &Option<Event>) -> About {
         Some(Event::Skip { from, posts }) => {
             About::Skip(from.number(), posts.first(), posts.last())
         }
+        Some(Event::Share { share }) => About::Share(share.asks()),
     }
 }
 
@@ -62,13 +64,21 @@ fn about_bytes<R: Abort + AllocGlobal>(rt: &R, bytes: &[u8]) -> About {
 
 #[test]
 fn what_a_client_sends_is_an_event(rt: HostRuntime) {
+    let share = Share::new(8).expect(&rt, "a share");
     let about = [
         about_frame(Frame::Leave),
         about_frame(Frame::Retire { node: id(3) }),
         about_frame(Frame::RetireIfSilent { node: id(4) }),
+        about_frame(Frame::Share { share }),
+    ];
+    let wanted = [
+        About::Leave,
+        About::Retirement(3),
+        About::Retirement(4),
+        About::Share(8),
     ];
     assert!(rt; about_bytes(&rt, &ASK) == About::Ask(7, 1));
-    assert!(rt; about == [About::Leave, About::Retirement(3), About::Retirement(4)]);
+    assert!(rt; about == wanted);
 }
 
 fn posted_join(from: NodeId) -> Frame {
@@ -214,17 +224,19 @@ fn third_request() -> Event {
 #[test]
 fn refusals_are_told_to_who_asked(rt: HostRuntime) {
     let node = id(3);
+    let share = Share::new(8).expect(&rt, "a share");
     let told = [
         is_told(&rt, third_request(), Refusal::Skip(1), &SKIPPED),
         is_told(&rt, Event::Leave, Refusal::Left, &LEFT),
         is_told(&rt, Event::Retire { node }, Refusal::Left, &LEFT),
+        is_told(&rt, Event::Share { share }, Refusal::Left, &LEFT),
     ];
     let acked = Event::Acked {
         peer: node,
         number: 1,
     };
     let untold = is_told(&rt, acked, Refusal::NothingToAck, &LEFT);
-    assert!(rt; told == [Some(true); 3] && untold == None);
+    assert!(rt; told == [Some(true); 4] && untold == None);
 }
 
 fn outcome<R: Abort + AllocGlobal>(rt: &R, bytes: &[u8]) -> Option<Outcome> {
@@ -256,6 +268,34 @@ fn the_operator_is_told_by_a_refusal(rt: HostRuntime) {
     let refused = [outcome_refused(15), outcome_refused(19)];
     assert!(rt; outcomes == [Some(Outcome::Done), None, None]);
     assert!(rt; refused == [Some(Outcome::Refused(Refusal::OutboxFull)), None]);
+}
+
+fn share_outcome_refused(refusal: u8) -> Option<Outcome> {
+    let frame = Frame::Refused {
+        session: 0,
+        request: 0,
+        refusal,
+        value: 0,
+    };
+    let outcome = share_outcome_of(&frame);
+    drop(frame);
+    outcome
+}
+
+// NothingToAck tells that the share is that one, Left that the node has left, Busy that more asks are pending; no refusal has
+// number 32.
+#[test]
+fn the_operator_is_told_of_a_share_by_a_refusal(rt: HostRuntime) {
+    let outcomes = [7, 1, 13, 32].map(|number| share_outcome_refused(number));
+    assert!(rt;
+        outcomes
+            == [
+                Some(Outcome::Done),
+                Some(Outcome::Refused(Refusal::Left)),
+                Some(Outcome::Refused(Refusal::Busy)),
+                None
+            ]
+    );
 }
 
 // The node to be retired is the one that was asked, and was heard a moment ago.

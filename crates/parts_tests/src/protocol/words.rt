@@ -1,17 +1,21 @@
 //! The words of commands, addresses and peers.
 
 use crate::sets::id;
+use cc_addresses::{Address, Host, HostName, Peer};
 use cc_messages::Command;
 use cc_views::Text;
-use cc_words::{LineFault, Peer, address, command, peers, peers_in_lines, store_of};
-use std::net::{Ipv4Addr, SocketAddr, SocketAddrV4};
+use cc_words::{LineFault, address, command, peers, peers_in_lines, store_of};
+use std::net::{IpAddr, Ipv4Addr, Ipv6Addr};
 use std::process::Abort;
 
-fn local(port: u16) -> SocketAddr {
-    SocketAddr::V4(SocketAddrV4::new(Ipv4Addr::new(127, 0, 0, 1), port))
+fn local(port: u16) -> Address {
+    Address {
+        host: Host::Ip(IpAddr::V4(Ipv4Addr::new(127, 0, 0, 1))),
+        port,
+    }
 }
 
-const NO_ADDRESSES: [&str; 14] = [
+const NO_ADDRESSES: [&str; 32] = [
     "",
     "127.0.0.1",
     "127.0.0.1:",
@@ -22,11 +26,125 @@ const NO_ADDRESSES: [&str; 14] = [
     "127.0.0.01:7001",
     "127.0.0:7001",
     "127.0.0.256:7001",
-    "localhost:7001",
-    "[::1]:7001",
     "127.0.0.1:7001 ",
     "127.0.0.1:70:01",
+    "::1:7001",
+    "[::1]",
+    "[::1]7001",
+    "[::1:7001",
+    "::1]:7001",
+    "[]:7001",
+    "[127.0.0.1]:7001",
+    "[localhost]:7001",
+    "[fe80::1%2]:7001",
+    "[::1]:07001",
+    "[::1]:65536",
+    "localhost",
+    "localhost:",
+    "localhost:07001",
+    "localhost:65536",
+    "localhost.:7001",
+    "1:7001",
+    "node.7:7001",
+    "node 1:7001",
+    "node,1:7001",
 ];
+
+// Words, and the segments of the IPv6 address that each is, and its port.
+const SIXES: [(&str, [u16; 8], u16); 5] = [
+    ("[::1]:7001", [0, 0, 0, 0, 0, 0, 0, 1], 7001),
+    ("[::]:0", [0, 0, 0, 0, 0, 0, 0, 0], 0),
+    (
+        "[2001:db8::7]:65535",
+        [0x2001, 0xdb8, 0, 0, 0, 0, 0, 7],
+        65_535,
+    ),
+    (
+        "[::ffff:1.2.3.4]:1",
+        [0, 0, 0, 0, 0, 0xffff, 0x102, 0x304],
+        1,
+    ),
+    ("[1:2:3:4:5:6:7:FF]:1", [1, 2, 3, 4, 5, 6, 7, 0xff], 1),
+];
+
+#[test]
+fn ipv6_addresses_stand_in_brackets(rt: HostRuntime) {
+    for &(word, [a, b, c, d, e, f, g, h], port) in &SIXES {
+        let host = Host::Ip(IpAddr::V6(Ipv6Addr::new(a, b, c, d, e, f, g, h)));
+        assert!(rt; address(word) == Some(Address { host, port }), "{word}");
+    }
+}
+
+// Names of machines.
+const NAMES: [&str; 9] = [
+    "a",
+    "localhost",
+    "node-1.example",
+    "NODE_2",
+    "7.example",
+    "1.2.3.4a",
+    "-",
+    "_",
+    "0x7f",
+];
+
+// What isn't one: nothing, an end that is a number, and other characters.
+const NO_NAMES: [&str; 9] = [
+    "",
+    ".",
+    "a.",
+    "1.2.3",
+    "127.0.0.256",
+    "a.1",
+    "a b",
+    "a:b",
+    "\u{e4}",
+];
+
+// 126 pairs of a letter and a dot.
+fn pairs<R: Abort + AllocGlobal>(rt: &R) -> String {
+    let mut name = String::new(rt.alloc());
+    for _ in 0..126 {
+        name.push_str("a.").expect(rt, "room");
+    }
+    name
+}
+
+#[test]
+fn names_of_machines_are_253_bytes_long_at_most(rt: HostRuntime) {
+    let mut name = pairs(&rt);
+    assert!(rt; HostName::new(name.as_str()).is_none(), "a dot at its end");
+    name.push('b').expect(&rt, "room");
+    assert!(rt; HostName::new(name.as_str()).is_some(), "253 bytes");
+    name.push('c').expect(&rt, "room");
+    assert!(rt; HostName::new(name.as_str()).is_none(), "254 bytes");
+    drop(name);
+}
+
+fn check_printed<R: Abort + AllocGlobal>(rt: &R, word: &str, printed: &str) {
+    let address = address(word).expect(rt, "an address");
+    let text = format!(in rt.alloc(); "{address}").expect(rt, "room");
+    assert!(rt; text.as_str() == printed, "{printed}");
+    drop(text);
+}
+
+#[test]
+fn names_of_machines_end_in_no_number(rt: HostRuntime) {
+    for &name in &NAMES {
+        let found = HostName::new(name);
+        assert!(rt; matches!(found, Some(it) if it.as_str() == name), "{name}");
+    }
+    for &name in &NO_NAMES {
+        assert!(rt; HostName::new(name).is_none(), "{name}");
+    }
+}
+
+#[test]
+fn addresses_are_printed_as_they_are_written(rt: HostRuntime) {
+    check_printed(&rt, "127.0.0.1:7001", "127.0.0.1:7001");
+    check_printed(&rt, "[0:0::1]:7001", "[::1]:7001");
+    check_printed(&rt, "Node-1.example:0", "Node-1.example:0");
+}
 
 #[test]
 fn addresses_have_one_spelling(rt: HostRuntime) {

@@ -39,3 +39,9 @@ returns-in_ok-put_u8-in-Skip-clause-writes c =
     subst (λ (f : Frame). Writes c.args.out.now c.put_skip.new.out (body_spelling f) c.put_skip.result) (sym c.in-Skip.is)
     (writes_then c.args.out.now c.put_u8-in-Skip.new.out c.put_skip.new.out (32 ∷ []) _ c.put_skip.result c.in_ok-put_u8-in-Skip.ensures
     c.put_skip.ensures.writes)
+
+pub returns-in_ok-put_u8-in-Share-clause-writes : goal.returns-in_ok-put_u8-in-Share-clause-writes
+returns-in_ok-put_u8-in-Share-clause-writes c =
+    subst (λ (f : Frame). Writes c.args.out.now c.put_share.new.out (body_spelling f) c.put_share.result) (sym c.in-Share.is)
+    (writes_then c.args.out.now c.put_u8-in-Share.new.out c.put_share.new.out (37 ∷ []) _ c.put_share.result c.in_ok-put_u8-in-Share.ensures
+    c.put_share.ensures.writes)

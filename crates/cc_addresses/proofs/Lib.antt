@@ -1,0 +1,3 @@
+pub mod HostNames
+pub mod LastParts
+pub mod NameBytes
