@@ -3,7 +3,7 @@
     cluster load kill-cluster soak soak-absent hostile closed-streams dead-member refused-flood stray-frames many-sessions \
     stale-collects costs worked-rows trusted links beside look look-picture hostile-status mistakes deb test-systemd \
     tls-cluster clients page-bytes one-session half-close idle-cluster power-cut slow-readers full-pipe operator-places many-nodes \
-    upgrade chain first-store snapshots partial-writes
+    upgrade chain first-store snapshots partial-writes wrong-places mutated-hellos
 
 # Plays the script that ships with the program before any proof.
 try:
@@ -215,6 +215,17 @@ full-pipe:
 operator-places:
 	@$(BUILD) ccnode
 	@python3 tools/operator_places.py crates/ccnode/out/ccnode
+
+# Greets a node by a million mutated Hellos, and by Hellos that drip. Some minutes.
+mutated-hellos:
+	@$(BUILD) ccnode
+	@python3 tools/mutated_hellos.py crates/ccnode/out/ccnode
+
+# Makes each mistake with addresses, ids and folders in a cluster with clients: each has to be named, and nothing lost. A minute
+# and a half.
+wrong-places:
+	@$(BUILD) ccnode
+	@python3 tools/wrong_places.py crates/ccnode/out/ccnode
 
 # Has 1,400 clients read slowly what a node doesn't listen to any more, and counts its sockets; and has its disk get full
 # meanwhile. Two minutes.

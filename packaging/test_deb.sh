@@ -100,7 +100,7 @@ configure() {
         echo "$node=$(address "$node")" >> "$root/etc/ccnode/peers"
         printf 'LISTEN=%s\nPEERS_FILE=/etc/ccnode/peers\nOPTIONS=\n' "$(address "$node")" > "$root/etc/ccnode/$node.env"
         as_node mkdir -m 700 "/var/lib/ccnode/$node"
-        as_node ccnode format "/var/lib/ccnode/$node" "$node" --initial 1,2,3 --beta 2/3
+        as_node ccnode format "/var/lib/ccnode/$node" "$node" --initial 1,2,3 --beta 2/3 --cluster blue
     done
 }
 

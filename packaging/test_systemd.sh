@@ -152,7 +152,7 @@ configure() {
         echo "$node=$(address "$node")" >> "$root/etc/ccnode/peers"
         printf 'LISTEN=%s\nPEERS_FILE=/etc/ccnode/peers\nOPTIONS=\n' "$(address "$node")" > "$root/etc/ccnode/$node.env"
         inside runuser -u ccnode -- mkdir -m 700 "/var/lib/ccnode/$node"
-        expect 0 runuser -u ccnode -- ccnode format "/var/lib/ccnode/$node" "$node" --initial 1,2,3 --beta 2/3
+        expect 0 runuser -u ccnode -- ccnode format "/var/lib/ccnode/$node" "$node" --initial 1,2,3 --beta 2/3 --cluster blue
     done
 }
 
@@ -239,7 +239,7 @@ enter_and_leave() {
     printf 'LISTEN=%s\nPEERS_FILE=/etc/ccnode/peers\nOPTIONS="%s"\n' "$(address 6)" \
         "--listen-clients $(address 7) --operators off --status $(address 8)" > "$root/etc/ccnode/6.env"
     inside runuser -u ccnode -- mkdir -m 700 /var/lib/ccnode/6
-    expect 0 runuser -u ccnode -- ccnode format /var/lib/ccnode/6 6 --contacts 1,2,3 --beta 2/3
+    expect 0 runuser -u ccnode -- ccnode format /var/lib/ccnode/6 6 --contacts 1,2,3 --beta 2/3 --cluster blue
     expect 0 systemctl start ccnode@6
     expect 0 ccnode ask "$(address 6)" 1 collect --wait --timeout 30
     expect_words '1:1=packaged'

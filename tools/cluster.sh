@@ -43,7 +43,7 @@ say() {
 
 for node in 1 2 3; do
     mkdir "node-$node"
-    say format "node-$node" "$node" --initial 1,2,3 --beta 2/3
+    say format "node-$node" "$node" --initial 1,2,3 --beta 2/3 --cluster demo
 done
 for node in 1 2 3; do
     start "$node"

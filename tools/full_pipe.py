@@ -102,7 +102,7 @@ def reader_gone(program):
 
 def disk_full(program, left, stream):
     """After how many seconds a node ends whose file can't grow, where that stream is a pipe with so many bytes left."""
-    with FullPipe(left) as pipe, Cluster(program, 1) as cluster:
+    with FullPipe(left) as pipe, Cluster(program, 1, name=None) as cluster:
         cluster.start(1, blocks=BLOCKS, **{stream: pipe.writer})
         ended, session = cluster.end_of(1), Session(cluster.address(1), 7)
         answered = time.monotonic()

@@ -20,7 +20,7 @@ import urllib.request
 
 import nodes
 from look import WatchedCluster, store_values
-from nodes import LOOPBACK, say
+from nodes import LOOPBACK, cluster_words, say
 
 BROWSERS = ["chromium", "chromium-browser", "google-chrome", "chrome"]
 SIZE = "1400,1120"
@@ -88,7 +88,7 @@ class GrowingCluster(WatchedCluster):
         self.nodes = everyone
         (self.folder / f"node-{ENTRANT}").mkdir()
         contacts = ",".join(map(str, MEMBERS))
-        words = ["format", f"node-{ENTRANT}", str(ENTRANT), "--contacts", contacts, "--beta", BETA]
+        words = ["format", f"node-{ENTRANT}", str(ENTRANT), "--contacts", contacts, "--beta", BETA, *cluster_words(self.name)]
         subprocess.run([self.program, *words], cwd=self.folder, check=True, capture_output=True)
 
     def start_members(self):

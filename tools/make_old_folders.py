@@ -64,6 +64,17 @@ def ask_all(cluster, node, session, *commands):
     client_of_it.close()
 
 
+def held(path):
+    """The bytes of a side up to the closed gate that ends its records, and with it. What lies behind that means nothing."""
+    side = path.read_bytes()
+    if side[0] != OPEN_GATE:
+        return side[:1]
+    place = STATE_AT + struct.unpack_from(">I", side, VERSION_AT + 1)[0]
+    while side[place] == OPEN_GATE:
+        place += 1 + 4 + struct.unpack_from(">I", side, place + 1)[0]
+    return side[: place + 1]
+
+
 def settle():
     """What makes nothing, as an acknowledgement, is flushed a second later at most."""
     time.sleep(1.5)
@@ -89,7 +100,7 @@ def make_fresh(program, target):
 
 def make_stored(program, target):
     """A member of one that stored each kind of value in session 7, and read in session 8; and what may become of it."""
-    with Cluster(program, 1) as cluster:
+    with Cluster(program, 1, name=None) as cluster:
         cluster.start(1)
         ask_all(cluster, 1, 7, ["store", "colour=blue"], ["max", "120"], ["flag"], ["add", "1001"], ["add", "5"])
         ask_all(cluster, 1, 8, ["collect"], ["readset"])
@@ -99,7 +110,7 @@ def make_stored(program, target):
         cluster.start(1)
         ask_all(cluster, 1, 7, ["store", "torn"])
         cluster.kill(1)
-        after = (cluster.folder / "node-1" / "side-a").read_bytes()
+        after = held(cluster.folder / "node-1" / "side-a")
     make_wrong(target, after)
 
 
@@ -107,7 +118,7 @@ def make_wrong(target, after):
     """The folder `stored`, of which a record was torn by a power cut, the last byte is lost, or the version isn't
     known; and the same in version 1. `after` is its side A with one more record."""
     stored = target / "stored"
-    side = (stored / "side-a").read_bytes()
+    side = held(stored / "side-a")
     size = struct.unpack_from(">I", after, len(side))[0]
     torn = side + after[len(side) : len(side) + 4 + size - 5]
     copied(target / "torn", stored, torn)
@@ -150,20 +161,20 @@ class Peers:
         reply = b"\x08" + view_of_two() + struct.pack(">QI", 1, 3)
         # The event of a post, and a record for each of them at most.
         size = len(reply) + 13 + 4 + 6
-        while (count := (most - self.side.stat().st_size) // size) > 0:
+        while (count := (most - len(held(self.side))) // size) > 0:
             self.post(*[reply] * count)
             self.wait_until_still()
 
     def overflow(self):
         """The same until it has more than makes the node move over."""
         reply = b"\x08" + view_of_two() + struct.pack(">QI", 1, 3)
-        self.post(*[reply] * ((PLENTY - self.side.stat().st_size) // len(reply) + 1))
+        self.post(*[reply] * ((PLENTY - len(held(self.side))) // len(reply) + 1))
 
     def wait_until_still(self):
-        before, size = None, self.side.stat().st_size
+        before, size = None, len(held(self.side))
         while before != size:
             time.sleep(1.1)
-            before, size = size, self.side.stat().st_size
+            before, size = size, len(held(self.side))
 
 
 def view_of_two():
@@ -201,7 +212,7 @@ def hold_up(cluster, peers):
 
 def make_rounds(program, target):
     """A member of three, of which no other runs, with share 32: two writes in a round that pends, a read that waits."""
-    with Cluster(program, 3, beta="2/3", share=32) as cluster:
+    with Cluster(program, 3, beta="2/3", share=32, name=None) as cluster:
         start_first(cluster)
         hold_up(cluster, Peers(cluster))
         settle()
@@ -210,7 +221,7 @@ def make_rounds(program, target):
 
 def make_moved(program, target, name, share):
     """The same once node 1 knows what two others stored, and has moved to its other side meanwhile."""
-    with Cluster(program, 3, beta="2/3", share=share) as cluster:
+    with Cluster(program, 3, beta="2/3", share=share, name=None) as cluster:
         start_first(cluster)
         peers = Peers(cluster)
         peers.post(b"\x09" + view_of_two() + struct.pack(">QI", 1, 2))
@@ -257,7 +268,7 @@ def make_entered(program, target):
 
 def make_absent(program, target):
     """Member 1 of two, of which one is enough, while 2 never runs: what is kept for it lapses, a snapshot is made."""
-    with Cluster(program, 2, beta="1/2") as cluster:
+    with Cluster(program, 2, beta="1/2", name=None) as cluster:
         cluster.start(1)
         ask_all(cluster, 1, 7, *(["store", f"w{count}"] for count in range(1, 41)))
         time.sleep(4.5)

@@ -55,14 +55,14 @@ def slow_sync(folder):
 
 class Cluster:
     """
-    Nodes 1 to `count`, formatted with that fraction beta, up to `share` of whose asks begin together. `preloads` gives a
-    node a library of its own (LD_PRELOAD).
+    Nodes 1 to `count`, formatted with that fraction beta, up to `share` of whose asks begin together, of a cluster with that
+    name, if it has one. `preloads` gives a node a library of its own (LD_PRELOAD).
     """
 
-    def __init__(self, program, count, beta="4/5", preloads=None, share=1):
+    def __init__(self, program, count, beta="4/5", preloads=None, share=1, name="tools"):
         self.program = os.path.realpath(program)
         self.nodes = range(1, count + 1)
-        self.beta, self.preloads, self.share = beta, preloads or {}, share
+        self.beta, self.preloads, self.share, self.name = beta, preloads or {}, share, name
         self.ports = dict(zip(self.nodes, free_ports(count)))
         self.folder = pathlib.Path(tempfile.mkdtemp(prefix="ccnode-"))
         self.running = {}
@@ -85,7 +85,7 @@ class Cluster:
         for node in self.nodes:
             (self.folder / f"node-{node}").mkdir()
             words = ["format", f"node-{node}", str(node), "--initial", members, "--beta", self.beta]
-            words += ["--share", str(self.share)]
+            words += ["--share", str(self.share), *cluster_words(self.name)]
             subprocess.run([self.program, *words], cwd=self.folder, check=True, capture_output=True)
 
     def slow_down(self, pause):
@@ -103,7 +103,7 @@ class Cluster:
 
     def run_words(self, node):
         peers = ",".join(f"{peer}={self.way(node, peer)}" for peer in self.nodes if peer != node)
-        words = ["run", f"node-{node}", "--listen", self.address(node), *answers_of(node)]
+        words = ["run", f"node-{node}", "--listen", self.address(node), *speech_of(node)]
         return words + (["--peers", peers] if peers else [])
 
     def start(self, node, closed=(), blocks=None, output=None, error=None):
@@ -172,12 +172,17 @@ class Cluster:
         return tuple(int(rows[name].split()[0]) for name in ("VmRSS", "VmHWM"))
 
 
-def answers_of(node):
-    """What ANSWERS has a node run with: `asker` or `all`, or `half`, which has the odd ones of a cluster send answers to all."""
-    answers = os.environ.get("ANSWERS", "")
-    if answers == "half":
-        answers = "all" if node % 2 else "asker"
-    return ["--answers", answers] if answers else []
+def speech_of(node):
+    """What SPEAKS has a node run with: `now` or `0.1`, or `half`, which has the odd ones of a cluster speak as 0.1 did."""
+    speech = os.environ.get("SPEAKS", "")
+    if speech == "half":
+        speech = "0.1" if node % 2 else "now"
+    return ["--speaks", speech] if speech else []
+
+
+def cluster_words(name):
+    """What a folder is formatted with so that its cluster has that name, unless a node speaks as 0.1 did, which greets nobody."""
+    return ["--cluster", name] if name and os.environ.get("SPEAKS", "now") == "now" else []
 
 
 def limited(words, closed, blocks=None):

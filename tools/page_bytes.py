@@ -159,7 +159,7 @@ def use_up_sessions(verdicts, cluster):
 
 
 def one_node(verdicts, program):
-    with Cluster(program, 1) as cluster:
+    with Cluster(program, 1, name=None) as cluster:
         cluster.start(1)
         cluster.wait_until_ready()
         talk = Talk(verdicts, cluster.ports[1])
@@ -174,7 +174,7 @@ def one_node(verdicts, program):
 
 def pending(verdicts, program):
     """An ask that waits for node 2, and what its session is told meanwhile."""
-    with Cluster(program, 2, beta="1/1") as cluster:
+    with Cluster(program, 2, beta="1/1", name=None) as cluster:
         cluster.start_all()
         cluster.wait_until_ready()
         cluster.kill(2)
@@ -191,7 +191,7 @@ def pending(verdicts, program):
 
 def outside(verdicts, program):
     """A node that hasn't joined, and then has left."""
-    with Cluster(program, 1) as cluster:
+    with Cluster(program, 1, name=None) as cluster:
         folder, port = cluster.folder / "entrant", nodes.free_ports(1)[0]
         folder.mkdir()
         subprocess.run([program, "format", folder, "9", "--contacts", "1"], check=True, capture_output=True)

@@ -120,7 +120,7 @@ def measure(cluster, seconds, verdicts, when):
 def main(program):
     nodes.end_on_signals()
     verdicts = Verdicts()
-    with Cluster(program, 1) as cluster:
+    with Cluster(program, 1, name=None) as cluster:
         cluster.start_all()
         cluster.wait_until_ready()
         measure(cluster, 3.0, verdicts, "before")

@@ -4,8 +4,8 @@
     sizes.py crates/ccnode/out/ccnode 3,5,9,17,33 [SECONDS]
 
 Of each size there are two rows a command: of one client, and of one client at each node. Nodes are of beta 2/3 and share
-32. The folders are in memory (/dev/shm), and then on the disk (TMPDIR). A row takes SECONDS (5). ANSWERS=all has all nodes
-send their answers to all, as programs before 0.2 do."""
+32. The folders are in memory (/dev/shm), and then on the disk (TMPDIR). A row takes SECONDS (5). SPEAKS=0.1 has all nodes
+speak as programs up to 0.1 do."""
 import os
 import sys
 import tempfile

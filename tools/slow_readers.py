@@ -46,7 +46,7 @@ class LongView(Cluster):
     """Nodes 1 and 2, of which 1 alone runs and is enough. It has the forged rows, and collects are long."""
 
     def __init__(self, program):
-        super().__init__(program, 2, beta="1/2")
+        super().__init__(program, 2, beta="1/2", name=None)
 
     def begin(self, blocks=None):
         self.start(1, blocks=blocks)

@@ -17,7 +17,7 @@ import sys
 import threading
 import time
 
-from nodes import Cluster, NoAnswer, Session, Verdicts, end_on_signals, free_ports, say
+from nodes import Cluster, NoAnswer, Session, Verdicts, cluster_words, end_on_signals, free_ports, say
 from soak import CLIENTS, RelayedCluster, WatchedLoad, judge_going_on, report
 
 # How much of the rate before has to be left while a member is away, and while it comes and goes.
@@ -230,7 +230,8 @@ class GrowingCluster(Cluster):
 
     def start_entrant(self):
         (self.folder / "node-4").mkdir()
-        told = self.does(["format", "node-4", "4", "--contacts", "1,2,3", "--beta", self.beta])[1]
+        told = self.does(["format", "node-4", "4", "--contacts", "1,2,3", "--beta", self.beta,
+                          *cluster_words(self.name)])[1]
         self.start(4)
         return told
 

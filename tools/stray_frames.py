@@ -85,7 +85,7 @@ def ask(cluster, node, session, seconds):
 def with_stray(verdicts, program, count, name):
     """A cluster of which node 1 got a frame of the stray node, and what that is called."""
     what = f"{name} of node {STRAY} at one of {count}"
-    with Cluster(program, count) as cluster:
+    with Cluster(program, count, name=None) as cluster:
         cluster.start_all()
         cluster.wait_until_ready()
         with connected(cluster, 1) as connection:
@@ -126,7 +126,7 @@ def retired_late(verdicts, program, count, name):
 @contextlib.contextmanager
 def held_up(program):
     """Two nodes of which an operation needs both, while node 2 doesn't run."""
-    with Cluster(program, 2, beta="1/1") as cluster:
+    with Cluster(program, 2, beta="1/1", name=None) as cluster:
         cluster.start_all()
         cluster.wait_until_ready()
         cluster.kill(2)
@@ -169,7 +169,7 @@ def half_closed(verdicts, program):
 
 
 def port_of_its_own(verdicts, program):
-    with Cluster(program, 1) as cluster:
+    with Cluster(program, 1, name=None) as cluster:
         cluster.ports[1] = 0
         cluster.start(1)
         port = waited_for(cluster, 1, RUNS_AT.format(node=1))
@@ -182,7 +182,7 @@ def port_of_its_own(verdicts, program):
 
 def one_connection(verdicts, program):
     """Two connections in the name of node 2, which doesn't run."""
-    with Cluster(program, 2) as cluster:
+    with Cluster(program, 2, name=None) as cluster:
         cluster.start(1)
         waited_for(cluster, 1, RUNS_AT.format(node=1))
         with connected(cluster, 1) as older:

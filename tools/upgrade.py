@@ -3,8 +3,8 @@
 
     upgrade.py crates/ccnode/out/ccnode OLD [SECONDS]
 
-Three nodes, of which an operation waits for two, run OLD. Each is ended and started again with this program, which sends
-answers to all, and then each again without that, SECONDS (3) apart. Clients and checks are those of kill_cluster.py. The
+Three nodes, of which an operation waits for two, run OLD. Each is ended and started again with this program, which speaks
+as 0.1 did, and then each again without that, SECONDS (3) apart. Clients and checks are those of kill_cluster.py. The
 folders are in memory. The status is 1 where something isn't so."""
 import os
 import sys
@@ -15,24 +15,24 @@ import time
 from kill_cluster import PATIENCE, Told, check_end, start_clients
 from nodes import Cluster, end_on_signals, say
 
-ROUNDS = (("all", "this program, answers to all"), ("asker", "this program, answers to the node that asked"))
+ROUNDS = (("0.1", "this program, which speaks as 0.1 did"), ("now", "this program"))
 
 
 class Upgrading(Cluster):
-    """Nodes that are started with a program of their own, and with these answers, where it knows of any."""
+    """Nodes that are started with a program of their own, and that speak so, where it knows of that."""
 
     def __init__(self, old, new, **others):
-        super().__init__(old, 3, beta="2/3", **others)
-        self.new, self.answers = os.path.realpath(new), {}
+        super().__init__(old, 3, beta="2/3", name=None, **others)
+        self.new, self.speech = os.path.realpath(new), {}
 
     def run_words(self, node):
         words = super().run_words(node)
-        return words + (["--answers", self.answers[node]] if node in self.answers else [])
+        return words + (["--speaks", self.speech[node]] if node in self.speech else [])
 
-    def move_on(self, node, answers):
+    def move_on(self, node, speech):
         """Ends a node, and starts it with the new program."""
         self.kill(node)
-        self.answers[node], old = answers, self.program
+        self.speech[node], old = speech, self.program
         try:
             self.program = self.new
             self.start(node)
@@ -41,17 +41,17 @@ class Upgrading(Cluster):
 
 
 def upgrade(cluster, told, seconds):
-    for answers, name in ROUNDS:
+    for speech, name in ROUNDS:
         for node in cluster.nodes:
             time.sleep(seconds)
-            cluster.move_on(node, answers)
+            cluster.move_on(node, speech)
         time.sleep(seconds)
         say(f"{name}: {sum(told.writes.values())} writes and {told.collects} collects answered")
 
 
 def main():
     end_on_signals()
-    os.environ.pop("ANSWERS", None)
+    os.environ.pop("SPEAKS", None)
     new, old = sys.argv[1:3]
     seconds = float(sys.argv[3]) if len(sys.argv) > 3 else 3.0
     tempfile.tempdir = "/dev/shm"

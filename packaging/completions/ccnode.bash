@@ -10,8 +10,8 @@ _ccnode_places() {
 
 _ccnode_options() {
     case $1 in
-        format) echo '--initial --contacts --beta --gamma --share --help' ;;
-        run) echo '--listen --listen-clients --operators --answers --peers --peers-file --status --log --help' ;;
+        format) echo '--initial --contacts --beta --gamma --share --cluster --help' ;;
+        run) echo '--listen --listen-clients --operators --speaks --peers --peers-file --status --log --help' ;;
         ask) echo '--text --request --timeout --wait --snapshot --status --json --help' ;;
         status) echo '--json --watch --help' ;;
         load) echo '--clients --seconds --collects --sessions-from --json --help' ;;
@@ -30,8 +30,8 @@ _ccnode() {
     word=${words[-1]} before=${words[-2]}
     for ((at = 1; at < ${#words[@]} - 1; at++)); do
         case ${words[at]} in
-            --initial | --contacts | --beta | --gamma | --share | --listen | --peers | --peers-file) ((at++)) ;;
-            --listen-clients | --operators | --answers | --status | --log | --text | --request | --timeout) ((at++)) ;;
+            --initial | --contacts | --beta | --gamma | --share | --cluster | --listen | --peers | --peers-file) ((at++)) ;;
+            --listen-clients | --operators | --speaks | --status | --log | --text | --request | --timeout) ((at++)) ;;
             --clients | --seconds | --sessions-from) ((at++)) ;;
             -*) ;;
             *) if [[ -z $subcommand ]]; then subcommand=${words[at]}; else ((places++)); fi ;;
@@ -39,11 +39,11 @@ _ccnode() {
     done
     COMPREPLY=()
     case $before in
-        --initial | --contacts | --beta | --gamma | --share | --listen | --peers) return ;;
+        --initial | --contacts | --beta | --gamma | --share | --cluster | --listen | --peers) return ;;
         --listen-clients | --status | --text | --request | --timeout) return ;;
         --clients | --seconds | --sessions-from) return ;;
         --operators) mapfile -t COMPREPLY < <(compgen -W 'on off' -- "$word"); return ;;
-        --answers) mapfile -t COMPREPLY < <(compgen -W 'asker all' -- "$word"); return ;;
+        --speaks) mapfile -t COMPREPLY < <(compgen -W 'now 0.1' -- "$word"); return ;;
         --log) mapfile -t COMPREPLY < <(compgen -W 'error warn info debug' -- "$word"); return ;;
         --peers-file) mapfile -t COMPREPLY < <(compgen -f -- "$word"); return ;;
     esac

@@ -124,7 +124,7 @@ format_nodes() {
     local node
     for node in 1 2 3; do
         mkdir "$work/$1-$node"
-        "$program" format "$work/$1-$node" "$node" --initial 1,2,3 --beta 2/3 --share 32 > "$work/formatted"
+        "$program" format "$work/$1-$node" "$node" --initial 1,2,3 --beta 2/3 --share 32 --cluster blue > "$work/formatted"
     done
 }
 

@@ -1,3 +1,4 @@
+pub mod ClusterNames
 pub mod HostNames
 pub mod LastParts
 pub mod NameBytes

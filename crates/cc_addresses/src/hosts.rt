@@ -71,7 +71,7 @@ fn has_name_bytes(name: &str) -> bool
     name.as_bytes().iter().all(|byte| is_name_byte(*byte))
 }
 
-fn is_name_byte(byte: u8) -> bool
+pub(crate) fn is_name_byte(byte: u8) -> bool
     ensures { result ≡ is_name_byte byte }
 {
     byte.is_ascii_alphanumeric() || byte == b'-' || byte == b'.' || byte == b'_'

@@ -21,7 +21,9 @@ A LIST is numbers joined by commas, ascending. A member is in its own initial li
 A node without one enters later, and needs all living members as contacts: enough
 that a fraction --gamma of those present, itself among them, answers it. --beta and
 --gamma are those of the cluster: the same at every node. --share is the node's own,
-and `share` changes it: 32 is for one that many clients ask at once.
+and `share` changes it: 32 is for one that many clients ask at once. --cluster is the
+same at every node of a cluster: up to 64 letters, digits, `-`, `.` and `_`. The file
+`identity` has it, beside 64 random bits that tell this folder from others.
 
 Prints `formatted ID`, or why the folder isn't formatted: BadOpening (no node begins
 so: a list that doesn't ascend, a fraction above 1, a --share of 0 or above 32, a
@@ -58,9 +60,10 @@ What comes to the ADDR of --listen-clients may ask, and nothing else; whoever br
 anything else there is hung up on. With --operators off the node leaves, retires others
 and changes its share for whoever asks on its own machine alone.
 
-An answer to an operation goes to the node that asked, and the others are told that
-they need not wait for it. A program from before that knows no such telling: beside one
-all nodes run with --answers all.
+The node greets each peer, and sends it nothing unless it is taken there: as a node of
+the same cluster that looks for just that peer. An answer to an operation goes to the
+node that asked, and the others are told that they need not wait for it. Programs up to
+0.1 know neither: beside one all nodes run with --speaks 0.1.
 
 An ADDR is an IPv4 address, an IPv6 address in brackets or the name of a machine, with a
 port: 127.0.0.1:7001, [::1]:7001, node-1.example:7001. A name is looked up at each
@@ -71,10 +74,12 @@ with # say nothing, and the node's own line is passed over: one file serves all.
 
 It notes its start on standard error, and its end where a disk call fails. It prints
 why it doesn't run, or has ended. Statuses: 1 where the folder can't be opened
-(NotFormatted, Damaged, Version, Device, NoMemory), a disk call fails (Failed) or an
-ADDR can't be listened at (Listen), 2 after a command line that it doesn't take, the
-node among its own peers and a FILE that can't be read included. Beside Device
-standard error says what is wrong with which file.";
+(NotFormatted, Damaged, Version, Device, NoMemory) or says nothing clear of itself
+(Identity), a disk call fails (Failed) or an ADDR can't be listened at (Listen), 2 after a
+command line that it doesn't take, the node among its own peers and a FILE that can't be
+read included, or where the folder is an old copy (OldCopy with the peer that has heard
+more, how much, and how much the folder has). Beside Device standard error says what is
+wrong with which file.";
 
 const ASK_HELP: &str = "\
 Examples: ccnode ask 127.0.0.1:7001 7 store a
@@ -234,6 +239,11 @@ const FORMAT: Subcommand = Subcommand {
             "N",
             "How many of the asks that wait begin together at most, 1 to 32 [default: 1]",
         ),
+        Word::Option(
+            "cluster",
+            "NAME",
+            "The name of the cluster: a node of another one isn't taken [default: none]",
+        ),
     ],
     help: FORMAT_HELP,
 };
@@ -255,9 +265,9 @@ const RUN: Subcommand = Subcommand {
             "Whether `leave`, `retire` and `share` are taken from other machines [default: on]",
         ),
         Word::Option(
-            "answers",
-            "asker|all",
-            "Which nodes get the answers to an operation [default: asker]",
+            "speaks",
+            "now|0.1",
+            "What it says to other nodes: what this program understands, or 0.1 [default: now]",
         ),
         Word::Option(
             "peers",

@@ -120,6 +120,7 @@ fn format_words<'a>(words: &ArgMatches<'a>) -> FormatWords<'a> {
         beta: words.get_str("beta"),
         gamma: words.get_str("gamma"),
         share: words.get_str("share"),
+        cluster: words.get_str("cluster"),
     }
 }
 
@@ -128,7 +129,7 @@ fn run_words<'a>(words: &ArgMatches<'a>) -> RunWords<'a> {
         listen: required(words, "listen"),
         listen_clients: words.get_str("listen-clients"),
         operators: words.get_str("operators"),
-        answers: words.get_str("answers"),
+        speaks: words.get_str("speaks"),
         peers: words.get_str("peers"),
         peers_file: words.get_str("peers-file"),
         status: words.get_str("status"),

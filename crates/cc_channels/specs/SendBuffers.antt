@@ -4,7 +4,7 @@
 --     with_one_more    with one parcel more, which finds no room behind 256
 --     rest_alone       without the parcels
 --     unsent_bytes     all bytes in their order, as the node `me` writes them
-use Rattle.std.specs.Prelude.{ℕ, List, [], ◌++◌, ◌+◌, ◌<◌, if◌then◌else◌, nat_lt}
+use Rattle.std.specs.Prelude.{ℕ, List, [], ◌++◌, ◌+◌, if◌then◌else◌, nat_lt}
 use Rattle.cc_protocol.specs.declared.bundle.Parcel.{Parcel}
 use Rattle.cc_protocol.specs.Bundles.{Bundled, no_parcel, with_parcel, bundle_bytes}
 

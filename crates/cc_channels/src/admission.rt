@@ -6,9 +6,9 @@ ghost use Rattle.cc_channels.specs.Admissions.{IsWhy};
 
 use crate::connections::Connections;
 use crate::durable::{Durable, Flushed};
-use crate::flags::Flag;
 use crate::grants::Grants;
 use crate::waker::Waker;
+use cc_flags::Flag;
 use cc_messages::Event;
 use cc_node::{Core, Node};
 use cc_ops::{Asked, Stage};

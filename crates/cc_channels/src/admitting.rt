@@ -5,10 +5,11 @@ ghost use Rattle.cc_channels.specs.Admissions.{IsWhy};
 
 use crate::admission::{Admission, NotAdmitted};
 use crate::connections::{Connection, Connections};
+use crate::dialling::Dialling;
 use crate::durable::Flushed;
 use crate::waker::Waker;
 use cc_messages::Event;
-use cc_protocol::{Admitted, Objection, Spoken};
+use cc_protocol::{Admitted, Objection, Spoken, may_speak, speaker_of};
 use cc_views::NodeId;
 use std::sync::Wait;
 use std::sync::atomic::{AtomicU64, Ordering};
@@ -46,18 +47,25 @@ pub struct ConnectionAdmission<'a, F: Flushed> {
     admission: &'a Admission<F>,
     waker: &'a Waker,
     connections: &'a Connections,
+    dialling: &'a Dialling,
     connection: &'a Connection,
     admitted: Admitted,
     me: NodeId,
+    // Whether what nodes send comes only over connections over which they greeted.
+    needs_greeting: bool,
+    // The node that greeted over the connection, and was taken.
+    greeter: Option<NodeId>,
     // For which node it spoke last, by its number, which is never 0.
     speaks_for: AtomicU64,
 }
 
 impl<'a, F: Flushed> ConnectionAdmission<'a, F> {
+    /// Of a connection over which nobody has greeted.
     pub fn new(
         admission: &'a Admission<F>,
         waker: &'a Waker,
         connections: &'a Connections,
+        dialling: &'a Dialling,
         connection: &'a Connection,
         admitted: Admitted,
         me: NodeId,
@@ -66,11 +74,19 @@ impl<'a, F: Flushed> ConnectionAdmission<'a, F> {
             admission,
             waker,
             connections,
+            dialling,
             connection,
             admitted,
             me,
+            needs_greeting: dialling.needs_greeting(),
+            greeter: None,
             speaks_for: AtomicU64::new(0),
         }
+    }
+
+    /// A node greeted over the connection, and was taken: from now on the connection brings of nodes what that one sends alone.
+    pub fn greet(&mut self, greeter: NodeId) {
+        self.greeter = Some(greeter);
     }
 
     // Whether a newer connection brings what that node sends. An older one ends.
@@ -84,15 +100,15 @@ impl<'a, F: Flushed> ConnectionAdmission<'a, F> {
 }
 
 impl<F: Flushed> Admitting for ConnectionAdmission<'_, F> {
-    ghost use Rattle.std.specs.Prelude.{⊤};
-    ghost use Rattle.cc_protocol.specs.Access.{allows};
+    ghost use Rattle.std.specs.Prelude.{⊤, ◌&&◌};
+    ghost use Rattle.cc_protocol.specs.Access.{allows, may_speak};
 
     ghost may_turn_away = { ⊤ };
 
-    ghost comes = { λ a e. allows a.admitted.access e };
+    ghost comes = { λ a e. allows a.admitted.access e && may_speak a.greeter a.needs_greeting e };
 
     fn may_come(&self, event: &Event) -> bool {
-        self.admitted.access.allows(event)
+        self.admitted.access.allows(event) && may_speak(self.greeter, self.needs_greeting, event)
     }
 
     fn admit<R: Wait>(
@@ -112,16 +128,13 @@ impl<F: Flushed> Admitting for ConnectionAdmission<'_, F> {
                 return Err(NotAdmitted::Replaced);
             }
         }
+        if matches!(event, Event::Ask { .. }) {
+            self.dialling.wait(rt);
+        }
+        if self.dialling.old_copy().is_some() {
+            return Err(NotAdmitted::Closed);
+        }
         self.admission
             .admit(rt, self.waker, self.me, event, self.connection.over())
-    }
-}
-
-/// The node that sends what brings such an event.
-pub fn speaker_of(event: &Event) -> Option<NodeId> {
-    match event {
-        Event::Deliver { from, .. } | Event::Skip { from, .. } => Some(*from),
-        Event::Acked { peer, .. } => Some(*peer),
-        _ => None,
     }
 }

@@ -1,8 +1,8 @@
 //! The connections that are open, and which of them asked last in each session.
 
 use crate::at_once::write_at_once;
-use crate::flags::Flag;
 use crate::offer::offer;
+use cc_flags::Flag;
 use cc_ops::Asked;
 use cc_protocol::{Access, Admitted, LastAsks, Origin, Routes, Speakers, Spoken};
 use cc_views::{NoMemory, NodeId};

@@ -2,8 +2,8 @@
 
 ghost use Rattle.std.specs.Prelude.{◌≤◌};
 
-use crate::flags::Flag;
 use crate::offer::offer;
+use cc_flags::Flag;
 use cc_messages::{Event, PostRange};
 use cc_protocol::{Due, Withheld};
 use crossbeam_channel::{Receiver, Sender, bounded};

@@ -2,10 +2,13 @@
 
 ghost use Rattle.std.specs.Prelude.{◌≤◌};
 
-use crate::flags::Flag;
+use crate::marks::Marks;
 use crate::offer::offer;
 use crate::peer_socket::PeerSocket;
+use crate::trouble::{Trouble, Troubles};
 use cc_addresses::{Address, Peer};
+use cc_flags::Flag;
+use cc_frames::Reason;
 use cc_messages::PostRange;
 use cc_protocol::{Due, Parcel, Withheld};
 use cc_views::NodeId;
@@ -36,6 +39,8 @@ pub struct PeerChannel {
     is_used: Flag,
     // For how many seconds the peer has been late or silent.
     silence: AtomicU64,
+    // In which second, from 1 on, it was last said that the peer has heard more than was posted to it.
+    suspected: AtomicU64,
     // When a frame of the peer came last, in milliseconds by a clock that never goes back, and since when it is taken for absent, in
     // milliseconds since 1970. 0 for never.
     last_heard: AtomicU64,
@@ -53,8 +58,12 @@ struct Place {
 /// How the connection to a peer stands, and where the peer listens.
 #[derive(Drop)]
 pub struct Way {
+    /// What the node and the peer have of each other's posts.
+    pub marks: Marks,
     socket: Mutex<PeerSocket>,
     place: Mutex<Place>,
+    // Why the node and the peer don't take each other.
+    troubles: Mutex<Troubles>,
     // The peer is to be connected to anew.
     is_stale: Flag,
     // The peer was connected to, and was sent nothing again since.
@@ -71,8 +80,10 @@ impl Way {
             found: None,
         };
         Way {
+            marks: Marks::new(),
             socket: Mutex::new(PeerSocket::new(alloc)),
             place: Mutex::new(place),
+            troubles: Mutex::new(Troubles::new()),
             is_stale: Flag::new(),
             is_new: Flag::new(),
             connected_since: AtomicU64::new(0),
@@ -125,6 +136,11 @@ impl Way {
     /// Whether the peer is to be connected to anew. It is told once.
     pub fn take_stale(&self) -> bool {
         self.is_stale.take()
+    }
+
+    /// A greeting came to that: why the peer doesn't take the node, or None where it does.
+    pub fn put_trouble<R: Wait>(&self, rt: &R, trouble: Option<Trouble>) {
+        self.troubles.lock(rt).put_there(trouble);
     }
 
     /// The peer is connected to since then, in milliseconds since 1970. It may lack what went into the connection before.
@@ -242,6 +258,15 @@ impl PeerChannel {
         }
     }
 
+    /// Somebody says in that second that the peer has heard more than was posted to it. So the peer is connected to anew, once in a
+    /// second: what it tells itself counts.
+    pub fn suspect(&self, second: u64) {
+        let second = second.saturating_add(1);
+        if self.suspected.swap(second, Ordering::SeqCst) != second {
+            self.way.is_stale.set();
+        }
+    }
+
     /// Where the peer listens.
     pub fn address<R: Wait>(&self, rt: &R) -> Address {
         self.way.address(rt)
@@ -260,6 +285,21 @@ impl PeerChannel {
     /// Since when the peer is connected to, in milliseconds since 1970.
     pub fn connected_since(&self) -> Option<u64> {
         moment(self.way.connected_since.load(Ordering::SeqCst))
+    }
+
+    /// What the node and the peer have of each other's posts.
+    pub fn marks(&self) -> &Marks {
+        &self.way.marks
+    }
+
+    /// The peer greeted: why it isn't taken, or None where it is.
+    pub fn put_unwelcome<R: Wait>(&self, rt: &R, reason: Option<Reason>) {
+        self.way.troubles.lock(rt).put_here(reason);
+    }
+
+    /// Why the node and the peer don't take each other, in words behind the peer's name. None where they do, as far as is known.
+    pub fn trouble<R: Wait>(&self, rt: &R) -> Option<&'static str> {
+        self.way.troubles.lock(rt).words()
     }
 
     /// A frame of the peer came at that moment, in milliseconds by a clock that never goes back.
@@ -317,6 +357,7 @@ pub(crate) fn channel_to(alloc: Global, peer: &Peer) -> Result<(PeerChannel, Far
         way,
         is_used: Flag::new(),
         silence: AtomicU64::new(0),
+        suspected: AtomicU64::new(0),
         last_heard: AtomicU64::new(0),
         absent_since: AtomicU64::new(0),
     };

@@ -2,16 +2,13 @@
 
 ghost use Rattle.std.specs.Prelude.{◌≤◌};
 
-use crate::at_once::write_at_once;
+use crate::at_once::{PLENTY, write_at_once};
 use crate::send_buffer::SendBuffer;
 use cc_protocol::Parcel;
 use cc_views::NodeId;
 use std::alloc::Global;
 use std::net::TcpStream;
 use std::sync::Arc;
-
-// How many bytes of posts are put into one write, about.
-const PLENTY: usize = 65_536;
 
 /// The connection to a peer, if there is one, and what is to be written to it.
 #[derive(Drop)]

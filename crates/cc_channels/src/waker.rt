@@ -1,6 +1,6 @@
 //! How workers wake the flusher.
 
-use crate::flags::Flag;
+use cc_flags::Flag;
 use crossbeam_utils::sync::Unparker;
 use std::sync::atomic::{AtomicU64, Ordering};
 

@@ -1,5 +1,6 @@
 //! What stands in the folder of a node.
 
+use crate::folder_identity::{identity_of_folder, print_identity};
 use crate::node_lines::print_node;
 use crate::status::{GOOD, REFUSED};
 use cc_checkpoint::{OpenFault, Peeked, peek};
@@ -24,7 +25,8 @@ pub enum DumpScope {
 
 /// Prints what stands in the files of a folder: for side A and then B whether it is armed, and under which generation, and
 /// then what opening finds, and what its node is where that is told too, or its fault. A fault of the files stands in place
-/// of all further lines. The answer is the status to end with: 0, or 1 after a fault.
+/// of all further lines. Behind the node stands what tells it from others, where the folder has a file for that. The answer is the
+/// status to end with: 0, or 1 after a fault.
 pub fn dump_folder<R: Files<File = File>, W: Write>(
     rt: &R,
     alloc: Global,
@@ -32,9 +34,31 @@ pub fn dump_folder<R: Files<File = File>, W: Write>(
     scope: DumpScope,
     output: &mut W,
 ) -> io::Result<u8> {
-    match FileSite::open(rt, alloc, folder, NoOutlet) {
-        Ok(site) => dump_site(alloc, site, scope, output),
-        Err(fault) => print_fault(&fault, output),
+    let status = match FileSite::open(rt, alloc, folder, NoOutlet) {
+        Ok(site) => dump_site(alloc, site, scope, output)?,
+        Err(fault) => print_fault(&fault, output)?,
+    };
+    if status == GOOD && scope == DumpScope::Node {
+        return print_folder_identity(rt, alloc, folder, output);
+    }
+    Ok(status)
+}
+
+// Prints what tells the node of a folder from others, where there is a file for that.
+fn print_folder_identity<R: Files<File = File>, W: Write>(
+    rt: &R,
+    alloc: Global,
+    folder: &str,
+    output: &mut W,
+) -> io::Result<u8> {
+    match identity_of_folder(rt, alloc, folder) {
+        Ok(Some(identity)) => {
+            print_identity(&identity, output)?;
+            output.flush()?;
+            Ok(GOOD)
+        }
+        Ok(None) => Ok(GOOD),
+        Err(why) => print_fault(&why, output),
     }
 }
 

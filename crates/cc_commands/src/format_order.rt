@@ -1,6 +1,7 @@
 //! How a folder is to be formatted.
 
 use crate::warning::Warning;
+use cc_addresses::ClusterName;
 use cc_changes::{Fraction, need};
 use cc_node::Opening;
 use cc_orders::{FormatWords, WordFault};
@@ -25,16 +26,20 @@ pub struct FormatOrder {
     pub gamma: Fraction,
     /// How many asks that wait begin together at most.
     pub share: u32,
+    /// The name of its cluster, if it has one.
+    pub cluster: Option<ClusterName>,
 }
 
 impl FormatOrder {
-    /// What these words ask for: lists are empty, fractions 4/5 and the share 1 where their words aren't given. The fault
+    /// What these words ask for: lists are empty, fractions 4/5, the share 1 and the cluster without a name where their words
+    /// aren't given. The fault
     /// names the first word of another form. Whether a node can begin so is told by formatting alone.
     pub fn parse(alloc: Global, words: &FormatWords<'_>) -> Result<Self, WordFault> {
         let id = small_number(words.id).ok_or(WordFault::Id)?;
         let beta = fraction_in(words.beta).ok_or(WordFault::Beta)?;
         let gamma = fraction_in(words.gamma).ok_or(WordFault::Gamma)?;
         let share = share_in(words.share).ok_or(WordFault::Share)?;
+        let cluster = cluster_in(words.cluster)?;
         let initial = ids(alloc, words.initial, WordFault::Initial)?;
         let contacts = ids(alloc, words.contacts, WordFault::Contacts)?;
         Ok(FormatOrder {
@@ -44,6 +49,7 @@ impl FormatOrder {
             beta,
             gamma,
             share,
+            cluster,
         })
     }
 
@@ -96,6 +102,16 @@ fn share_in(word: Option<&str>) -> Option<u32> {
     match word {
         Some(word) => small_number(word),
         None => Some(ONE_BY_ONE),
+    }
+}
+
+fn cluster_in(word: Option<&str>) -> Result<Option<ClusterName>, WordFault> {
+    let Some(word) = word else {
+        return Ok(None);
+    };
+    match ClusterName::new(word.as_bytes()) {
+        Ok(name) if !word.is_empty() => Ok(Some(name)),
+        _ => Err(WordFault::Cluster),
     }
 }
 

@@ -1,10 +1,12 @@
 //! A folder begins to keep a node.
 
+use crate::folder_identity::write_identity;
 use crate::format_order::FormatOrder;
 use crate::status::{GOOD, REFUSED};
 use cc_files::{FileSite, NoOutlet};
 use cc_flush::{Back, format};
 use cc_site::Site;
+use cc_words::Identity;
 use std::alloc::Global;
 use std::fmt::Display;
 use std::fs::{File, Files};
@@ -12,29 +14,52 @@ use std::io;
 use std::io::Write;
 
 /// Makes the files of a folder keep the node that is asked for, and prints `formatted` and its id, or the fault of the files
-/// or of the formatting. The answer is the status to end with: 0, or 1 after a fault.
+/// or of the formatting. Where its cluster is named, the folder tells its node from others by that name and by `birth`: 64 random
+/// bits. The answer is the status to end with: 0, or 1 after a fault.
 pub fn format_folder<R: Files<File = File>, W: Write>(
     rt: &R,
     alloc: Global,
     folder: &str,
     order: &FormatOrder,
+    birth: u64,
     output: &mut W,
 ) -> io::Result<u8> {
-    match FileSite::open(rt, alloc, folder, NoOutlet) {
-        Ok(site) => format_site(alloc, site, order, output),
-        Err(fault) => print_fault(&fault, output),
-    }
+    let site = match FileSite::open(rt, alloc, folder, NoOutlet) {
+        Ok(site) => site,
+        Err(fault) => return print_fault(&fault, output),
+    };
+    let name_it = || match order.cluster {
+        Some(cluster) => write_identity(rt, alloc, folder, &Identity { cluster, birth }),
+        None => Ok(()),
+    };
+    format_and(alloc, site, order, name_it, output)
 }
 
-/// The same over the two sides of any site.
+/// The same over the two sides of any site, which have no cluster.
 pub fn format_site<S: Site + Drop, W: Write>(
     alloc: Global,
     site: S,
     order: &FormatOrder,
     output: &mut W,
 ) -> io::Result<u8> {
+    format_and(alloc, site, order, || Ok(()), output)
+}
+
+// Formats, and then does that too.
+fn format_and<S: Site + Drop, N: FnOnce() -> io::Result<()>, W: Write>(
+    alloc: Global,
+    site: S,
+    order: &FormatOrder,
+    finish: N,
+    output: &mut W,
+) -> io::Result<u8>
+    requires { N.IsAlwaysCallable finish }
+{
     match format(alloc, site, &order.opening()) {
-        Ok(_) => print_formatted(order.id, output),
+        Ok(_) => {
+            finish()?;
+            print_formatted(order.id, output)
+        }
         Err(Back { site: _, fault }) => print_fault(&fault, output),
     }
 }

@@ -3,6 +3,7 @@
 
 mod bad_opening;
 mod dumping;
+mod folder_identity;
 mod format_order;
 mod formatting;
 mod lost;
@@ -14,6 +15,7 @@ mod warning;
 
 pub use bad_opening::BadOpening;
 pub use dumping::{DumpScope, dump_folder, dump_site};
+pub use folder_identity::{IdentityError, identity_of_folder};
 pub use format_order::FormatOrder;
 pub use formatting::{format_folder, format_site};
 pub use lost::Lost;

@@ -139,6 +139,17 @@ fn sync_folder<R: Files<File = File>>(rt: &R, folder: &str) -> Result<(), SiteFa
 }
 
 impl<O: Outlet> Site for FileSite<O> {
+    ghost use Rattle.std.proofs.Common.{lit≤};
+
+    // A sync that makes a file longer changes what the file system keeps of the file, and costs a second write.
+    const STRIDE: u64 = 262_144;
+
+    ghost STRIDE = { 262144 };
+
+    ghost has_stride = { lit≤ tt };
+
+    ghost bounds_stride = { lit≤ tt };
+
     ghost honest = { λ _. ⊥ };
 
     ghost tells = { λ _. ⊥ };

@@ -10,7 +10,7 @@
 --     opened_stays        up to the sides being read
 --     found               the node that is found there is that after as many events as were found, all of them durable
 --     moved_stays         and then through the move
-use Rattle.std.proofs.Common.{◌≡◌, ◌≤◌, inl, inr, ℕ, List, length, take, drop, ◌++◌, set, get_or, Bool, true, false, eqb, ltb, slice_index, refl, sym, ◌∙◌, ap, subst, arith}
+use Rattle.std.proofs.Common.{◌≡◌, ◌≤◌, inl, inr, ℕ, List, length, take, drop, set, get_or, Bool, true, false, eqb, ltb, slice_index, refl, sym, ◌∙◌, ap, subst, arith}
 use Rattle.std.specs.Prelude.{if◌then◌else◌, Some}
 use Rattle.std.proofs.lemmas.Bool.{cases_eq, eqb-true}
 use Rattle.std.proofs.lemmas.Option.{none-some}
@@ -35,7 +35,7 @@ use Rattle.cc_checkpoint.specs.declared.choosing.Peeked.{Peeked}
 use Rattle.cc_checkpoint.specs.declared.choosing.Peeked.TheVariants.{Closed, Armed, Short}
 use Rattle.cc_checkpoint.specs.Choosing.{peek_of}
 use Rattle.cc_checkpoint.proofs.OffRuns.{armed_there}
-use Rattle.cc_journal.specs.Journals.{IsGood, IsGoodNow, StaysGood}
+use Rattle.cc_journal.specs.Journals.{IsGood, StaysGood}
 use Rattle.cc_flush.specs.Engine.{Engine, IsSettled}
 use Rattle.cc_flush.specs.Flushing.{LeadsTo}
 use Rattle.cc_flush.specs.Opening.{AreSettled}

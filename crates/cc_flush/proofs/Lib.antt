@@ -10,3 +10,4 @@ mod Reopened
 mod ArmingAgain
 pub mod Advancing
 pub mod MovingRuns
+mod Lengths

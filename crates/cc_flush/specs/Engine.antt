@@ -2,11 +2,12 @@
 --     Engine              its site, its node, where the next record goes, what is owed, the fault that ended it, and what opening
 --                         found
 --     in_use_of           which side is in use, and under which generation
+--     held_of             how many bytes of that side hold the node
 --     IsSettled           a side with no unsynced change
 --     StandsNow           whatever a crash leaves now, the sides stand for that node
 --     IsSound             what every engine keeps
 --     IsOwed              what is owed is just these entries
-use Rattle.std.specs.Prelude.{◌≡◌, ◌≤◌, ℕ, ◌+◌, Bool, true, false, List, [], length, Option, None, refl}
+use Rattle.std.specs.Prelude.{◌≡◌, ◌≤◌, ℕ, ◌+◌, ◌-◌, ◌^◌, min, Bool, true, false, List, [], length, Option, None, refl}
 use Rattle.std.specs.Coded.{Coded, code_by, coded×, coded_bool, coded_ℕ, coded_option}
 use Rattle.cc_site.specs.declared.site.Side.{Side}
 use Rattle.cc_site.specs.declared.site.Site.{Ghosts}
@@ -59,6 +60,10 @@ engine_code {D} site_code =
 
 abbrev pub in_use_of : {D : Type 0} → Engine D → InUse
 in_use_of e = record { side = e.at.side; generation = e.generation }
+
+-- up to the closed gate that ends the records, and with it: a u64 that stops at its greatest value
+abbrev pub held_of : {D : Type 0} → Engine D → ℕ
+held_of e = min (e.at.place + 1) (2 ^ 64 - 1)
 
 -- a sync of the side would leave it as it is
 abbrev pub IsSettled : SideState → Type 0

@@ -21,9 +21,9 @@ use Rattle.cc_node.specs.Lawful.{IsLawfulNode}
 use Rattle.cc_node.specs.Node.{Node, IsLawful, after, line}
 use Rattle.cc_checkpoint.specs.declared.choosing.InUse.{InUse}
 use Rattle.cc_journal.specs.declared.entry.Entry.{Entry}
-use Rattle.cc_journal.specs.Batches.{events_in, batch_bytes}
+use Rattle.cc_journal.specs.Batches.{events_in}
 use Rattle.cc_journal.specs.GoodSides.{HasGoodSidesNow, KeepsSides}
-use Rattle.cc_journal.specs.Journals.{MayHaveOpened, with_record, IsGoodNow, KeepsGood, StaysGood}
+use Rattle.cc_journal.specs.Journals.{MayHaveOpened, bytes_ahead, with_record, IsGoodNow, KeepsGood, StaysGood}
 use Rattle.cc_flush.specs.Engine.{Engine, in_use_of}
 use Rattle.cc_journal.specs.Outlet.{Puts}
 
@@ -31,9 +31,10 @@ abbrev pub Commits : Side → Side → Call → Type 0
 Commits this side call = (side ≡ this) × ((call ≡ Write) ⊎ (call ≡ Sync))
 
 -- the record is being written;  or it is made sure of, and its gate is opened
-abbrev pub CommitStops : SideState → ℕ → List Entry → SideState → Type 0
-CommitStops was place batch now =
-    (HalfWritten was (place + 1) (length (batch_bytes batch)) now ⊎ (now ≡ was)) ⊎ MayHaveOpened (with_record was place batch) place now
+abbrev pub CommitStops : (stride used : ℕ) → SideState → ℕ → List Entry → SideState → Type 0
+CommitStops stride used was place batch now =
+    (HalfWritten was (place + 1) (length (bytes_ahead stride used place batch)) now ⊎ (now ≡ was))
+    ⊎ MayHaveOpened (with_record stride used was place batch) place now
 
 module _ {D : Type 0} (s : Ghosts D) where
   pub record LeadsTo (engine : Engine D) (start : Node) (events : List Event) (opening : ℕ) : Type 0 where

@@ -18,8 +18,8 @@ ghost use Rattle.cc_sides.specs.Sides.{StandsAt};
 ghost use Rattle.cc_checkpoint.specs.Faults.{FaultRose};
 ghost use Rattle.cc_journal.specs.Batches.{AreLawful, events_in, batch_bytes};
 ghost use Rattle.cc_journal.specs.GoodSides.{MayBeLeft, EachLeaves};
-ghost use Rattle.cc_journal.specs.Journals.{room_limit, IsGoodNow, KeepsGood, StaysGood};
-ghost use Rattle.cc_flush.specs.Engine.{IsOwed};
+ghost use Rattle.cc_journal.specs.Journals.{end_ahead, room_limit, IsGoodNow, KeepsGood, StaysGood};
+ghost use Rattle.cc_flush.specs.Engine.{IsOwed, held_of};
 ghost use Rattle.cc_flush.specs.Flushing.{CommitStops, FlushFails, Flushes, LeadsTo, LeadsToOwed, PutsAgain};
 ghost use Rattle.cc_flush.specs.declared.flusher.CheckpointFault.TheVariants as checkpoint_faults;
 ghost use Rattle.cc_flush.specs.Moving.{Moves, MoveStops};
@@ -27,13 +27,13 @@ ghost use Rattle.cc_flush.specs.Opening.{AreSettled, IsCounted, OpenFails, OpenS
 ghost use Rattle.cc_flush.specs.Standing.{resends, reply_again, ack_again};
 
 use crate::back::Back;
-use crate::committing::make_durable;
+use crate::committing::{length_after, make_durable};
 use crate::moving::move_over;
 use crate::opened::Opened;
 use crate::opening::{Found, open_sides};
 use crate::standing::{put_ack_again, put_kept_answer, put_kept_posts};
 use cc_checkpoint::{OpenFault, Piece};
-use cc_journal::{Batch, Forfeit, Journal, Landed};
+use cc_journal::{Batch, Forfeit, Journal, Landed, ROOM_LIMIT};
 use cc_node::{Core, Node};
 use cc_site::{DeviceFault, Side, Site};
 use cc_views::{COUNTER_LIMIT, NoMemory, NodeId};
@@ -140,9 +140,6 @@ impl<S: Site> Model for Flusher<S> {
     }) };
 }
 
-// Up to how many bytes of a side there is room for a record.
-const ROOM_LIMIT: u64 = 1 << 61;
-
 impl<S: Site> Flusher<S> {
     /// The node after all durable events whose outputs were put.
     pub fn twin(&self) -> &Node
@@ -191,6 +188,14 @@ impl<S: Site> Flusher<S> {
         ensures { result ≡ self.now.generation }
     {
         self.generation
+    }
+
+    /// How many bytes of the side in use hold the node: up to the closed gate that ends its records, and with it. What lies
+    /// behind that, as zeros ahead, has no meaning.
+    pub fn held(&self) -> u64
+        ensures { result ≡ held_of self.now }
+    {
+        self.journal.place().saturating_add(1)
     }
 
     /// How many bytes the side in use has.
@@ -280,7 +285,8 @@ impl<S: Site> Flusher<S> {
         }
     }
 
-    /// Makes a batch durable, under two syncs. Its outputs are owed from then on, until `release` puts them. It takes no
+    /// Makes a batch durable, under two syncs. Its outputs are owed from then on, until `release` puts them. Where its record
+    /// makes the side longer, zeros go behind it up to the next multiple of the site's stride: they take no room. It takes no
     /// memory. It fails only where a disk call does; then nothing is put, and the engine has ended.
     pub fn commit(&mut self, batch: &Batch) -> Result<Landed, Failed>
         requires owes { self.old.owes ≡ false }
@@ -293,7 +299,8 @@ impl<S: Site> Flusher<S> {
         ensures owes { MatchResult result (λ _. self.new.owes ≡ true) (λ _. self.new.owes ≡ false) }
         ensures same_twin { self.new.twin ≡ self.old.twin }
         ensures moved { OnOk result (self.new.at ≡ record { side = self.old.at.side; place = self.old.at.place + length (batch_bytes batch.now) }) }
-        ensures used { OnOk result (self.new.used ≡ max self.old.used (self.new.at.place + 1)) }
+        ensures used { OnOk result (self.new.used ≡ max self.old.used (end_ahead S.STRIDE self.old.used (self.new.at.place + 1))) }
+        ensures room { OnOk result ((self.new.used < room_limit) ↔ (self.new.at.place + 1 < room_limit)) }
         ensures kept { OnErr result ((self.new.at ≡ self.old.at) × (self.new.used ≡ self.old.used)) }
         ensures goes_on { OnOk result (self.new.failed ≡ None) }
         ensures failed { IfErr result (λ f. self.new.failed ≡ Some f.fault) }
@@ -308,15 +315,16 @@ impl<S: Site> Flusher<S> {
             → LeadsTo S.Site self.old start events opening
             → OnOk result (IsGoodNow S.Site self.new.site start (events ++ events_in batch.now) opening) }
         ensures stops { S.honest self.old.site → self.old.failed ≡ None
-            → OnErr result (CommitStops (S.state self.old.site self.old.at.side) self.old.at.place batch.now (S.state self.new.site self.old.at.side)) }
+            → OnErr result (CommitStops S.STRIDE self.old.used (S.state self.old.site self.old.at.side) self.old.at.place batch.now
+            (S.state self.new.site self.old.at.side)) }
         ensures device { self.old.failed ≡ None → IfErr result (λ f. (f.fault.side ≡ self.old.at.side) × ((f.fault.call ≡ Write) ⊎ (f.fault.call ≡ Sync))) }
         ensures count { self.old.failed ≡ None → MatchResult result (λ _. S.failures self.new.site ≡ S.failures self.old.site)
             (λ _. Rose (S.failures self.old.site) (S.failures self.new.site)) }
     {
         self.check()?;
-        match make_durable(&mut self.journal, &mut self.site, batch) {
+        match make_durable(&mut self.journal, &mut self.site, batch, self.used) {
             Ok(landed) => {
-                self.used = self.used.max(self.journal.place() + 1);
+                self.used = length_after::<S>(self.used, self.journal.place() + 1);
                 self.owed = Some(Snapshot::of(&landed));
                 Ok(landed)
             }

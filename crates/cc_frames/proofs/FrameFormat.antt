@@ -6,7 +6,8 @@ use Rattle.std.proofs.lemmas.Bool.Decides.{nat_tests}
 use Rattle.std.proofs.lemmas.List.{take_at, drop_at, length-append}
 use Rattle.cc_wire.specs.declared.fault.WireFault.TheVariants.{Short}
 use Rattle.cc_frames.specs.declared.frame.Frame.{Frame}
-use Rattle.cc_frames.specs.declared.frame.Frame.TheVariants.{Post, Ack, Ask, Reply, Refused, Leave, Retire, Skip, RetireIfSilent, Share}
+use Rattle.cc_frames.specs.declared.frame.Frame.TheVariants.{Post, Ack, Ask, Reply, Refused, Leave, Retire, Skip, Hello, Welcome, Unwelcome}
+use Rattle.cc_frames.specs.declared.frame.Frame.TheVariants.{RetireIfSilent, Share}
 use Rattle.cc_wire.specs.Reading.{◌>>=◌, Reading, via, bytes_at, whole}
 use Rattle.cc_frames.specs.Frames.{replied_spelling, IsReplied, replied_at, refused_spelling, IsRefused, refused_at, body_spelling, frame_spelling}
 use Rattle.cc_frames.specs.Frames.{IsFrame, body_fields, body_at, body_length_at, enclosed_at, frame_at}
@@ -15,6 +16,7 @@ use Rattle.cc_wire.proofs.Spelled.{nothing_spelled, kind_or, kinded_takes}
 use Rattle.cc_wire.proofs.Formats.{limited_spelled, id_spelled, u32_spelled, u64_spelled, ask_share_spelled}
 use Rattle.cc_wire.proofs.AnswerFormat.{answer_spelled}
 use Rattle.cc_wire.proofs.EventFormat.{numbered_spelled, delivery_spelled, place_spelled, asked_spelled, skip_spelled}
+use Rattle.cc_frames.proofs.HelloFormat.{hello_spelled, unwelcome_spelled}
 use Rattle.cc_frames.proofs.BodyLengths.{length-body, length-body-positive}
 use Rattle.cc_wire.proofs.Whole.{whole_takes, whole_again}
 
@@ -52,9 +54,12 @@ module _ (bytes after : List ℕ) (k : ℕ) (m : Frame) (rest : List ℕ) (fits 
       case nothing_spelled (λ _. Leave) 6 (λ a h. h) (λ a. refl) _ (
       case id_spelled (λ node. Retire node) 7 (λ a h. h) (λ a. refl) _ (
       case skip_spelled (λ f. Skip f.0 f.1) 32 (λ a h. h) (λ a. refl) _ (
+      case hello_spelled (λ hello. Hello hello) 33 (λ a h. h) (λ a. refl) _ (
+      case u64_spelled (λ heard. Welcome heard) 34 (λ a h. h) (λ a. refl) _ (
+      case unwelcome_spelled (λ f. Unwelcome f.0 f.1) 35 (λ a h. h.1) (λ a. refl) _ (
       case id_spelled (λ node. RetireIfSilent node) 36 (λ a h. h) (λ a. refl) _ (
       case ask_share_spelled (λ share. Share share) 37 (λ a h. h) (λ a. refl) _ (
-      λ e. absurd cc))))))))))
+      λ e. absurd cc)))))))))))))
 
 -- what is spelled so is read again
 body_again : (m : Frame) (rest : List ℕ) → IsFrame m → body_at (body_spelling m ++ rest) ≡ Ok (m, rest)
@@ -67,6 +72,9 @@ body_again (Refused session request refusal value) rest is = rw (refused_spelled
 body_again Leave rest is = refl
 body_again (Retire node) rest is = rw (id_spelled.again node rest is) refl
 body_again (Skip from posts) rest is = rw (skip_spelled.again (from, posts) rest is) refl
+body_again (Hello hello) rest is = rw (hello_spelled.again hello rest is) refl
+body_again (Welcome heard) rest is = rw (u64_spelled.again heard rest is) refl
+body_again (Unwelcome reason node) rest is = rw (unwelcome_spelled.again (reason, node) rest (tt, is)) refl
 body_again (RetireIfSilent node) rest is = rw (id_spelled.again node rest is) refl
 body_again (Share share) rest is = rw (ask_share_spelled.again share rest is) refl
 

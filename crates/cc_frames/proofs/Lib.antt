@@ -1,4 +1,5 @@
 pub mod BodyLengths
+pub mod HelloFormat
 pub mod FrameFormat
 pub mod Framing
 pub mod Fronts

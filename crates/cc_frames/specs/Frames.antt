@@ -5,9 +5,11 @@ use Rattle.cc_wire.specs.declared.fault.WireFault.TheVariants.{Short, BadKind}
 use Rattle.cc_messages.specs.Shares.{IsAskShare}
 use Rattle.cc_messages.specs.declared.answer.Answer.{Answer}
 use Rattle.cc_frames.specs.declared.frame.Frame.{Frame}
-use Rattle.cc_frames.specs.declared.frame.Frame.TheVariants.{Post, Ack, Ask, Reply, Refused, Leave, Retire, Skip, RetireIfSilent, Share}
+use Rattle.cc_frames.specs.declared.frame.Frame.TheVariants.{Post, Ack, Ask, Reply, Refused, Leave, Retire, Skip, Hello, Welcome, Unwelcome}
+use Rattle.cc_frames.specs.declared.frame.Frame.TheVariants.{RetireIfSilent, Share}
 use Rattle.cc_wire.specs.Reading.{◌>>=◌, Reading, ◌⊗◌, via, nothing_at, byte_at, kinded, bytes_at, number_at, number_from, ask_share_at, limited, whole}
 use Rattle.cc_frames.specs.Limits.{body_limit}
+use Rattle.cc_frames.specs.Hellos.{hello_spelling, IsHello, hello_at, unwelcome_spelling, unwelcome_at}
 use Rattle.cc_wire.specs.Spelling.{Spells, IsId}
 use Rattle.cc_wire.specs.Answers.{answer_spelling, IsAnswer, answer_at}
 use Rattle.cc_wire.specs.Events.{numbered_spelling, IsNumbered, numbered_at, delivery_spelling, IsDelivery, delivery_at, place_spelling, IsPlace}
@@ -45,6 +47,9 @@ body_spelling (Refused session request refusal value) = 5 ∷ refused_spelling s
 body_spelling Leave = 6 ∷ []
 body_spelling (Retire node) = 7 ∷ to_be_bytes w32 node
 body_spelling (Skip from posts) = 32 ∷ skip_spelling from posts
+body_spelling (Hello hello) = 33 ∷ hello_spelling hello
+body_spelling (Welcome heard) = 34 ∷ to_be_bytes w64 heard
+body_spelling (Unwelcome reason node) = 35 ∷ unwelcome_spelling reason node
 body_spelling (RetireIfSilent node) = 36 ∷ to_be_bytes w32 node
 body_spelling (Share share) = 37 ∷ share ∷ []
 
@@ -60,6 +65,9 @@ IsFrame (Refused session request refusal value) = IsRefused session request refu
 IsFrame Leave = Unit {0}
 IsFrame (Retire node) = IsId node
 IsFrame (Skip from posts) = IsSkip from posts
+IsFrame (Hello hello) = IsHello hello
+IsFrame (Welcome heard) = heard < 2 ^ 64
+IsFrame (Unwelcome reason node) = IsId node
 IsFrame (RetireIfSilent node) = IsId node
 IsFrame (Share share) = IsAskShare share
 
@@ -78,9 +86,12 @@ body_fields kind =
     else (if kind == 6 then via (λ _. Leave) nothing_at
     else (if kind == 7 then via (λ node. Retire node) (number_from 1)
     else (if kind == 32 then via (λ f. Skip f.0 f.1) skip_at
+    else (if kind == 33 then via (λ hello. Hello hello) hello_at
+    else (if kind == 34 then via (λ heard. Welcome heard) (number_at w64)
+    else (if kind == 35 then via (λ f. Unwelcome f.0 f.1) unwelcome_at
     else (if kind == 36 then via (λ node. RetireIfSilent node) (number_from 1)
     else (if kind == 37 then via (λ share. Share share) ask_share_at
-    else (λ bytes. Err (BadKind kind)))))))))))
+    else (λ bytes. Err (BadKind kind))))))))))))))
 
 unfoldable pub body_at : Reading Frame
 body_at = kinded body_fields

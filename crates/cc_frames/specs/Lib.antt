@@ -1,4 +1,5 @@
 pub mod Limits
+pub mod Hellos
 pub mod Frames
 pub mod Held
 pub mod Streams

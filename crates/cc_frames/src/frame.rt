@@ -10,6 +10,7 @@ ghost use Rattle.cc_wire.specs.Reading.{Gives, whole};
 ghost use Rattle.cc_frames.specs.Frames.{replied_spelling, IsReplied, refused_spelling, IsRefused, body_spelling, frame_spelling, IsFrame};
 ghost use Rattle.cc_frames.specs.Frames.{SpellsFrame, body_at, body_fields, replied_at, refused_at, body_length_at, enclosed_at, frame_at};
 
+use crate::hello::{Hello, Reason, put_hello, put_unwelcome, read_hello, read_unwelcome};
 use byteorder::{BigEndian, ByteOrder};
 use cc_messages::{Answer, Command, Message, PostRange, Share};
 use cc_views::{NoMemory, NodeId};
@@ -62,6 +63,17 @@ pub enum Frame {
     Skip {
         from: NodeId,
         posts: PostRange,
+    },
+    /// What a node greets another with, over each connection that it makes to it.
+    Hello(Hello),
+    /// The node that was greeted takes the other. The last number of the other's posts that it has taken in.
+    Welcome {
+        heard: u64,
+    },
+    /// The node that was greeted, the one with this id, doesn't take the other.
+    Unwelcome {
+        reason: Reason,
+        node: NodeId,
     },
     /// As `Retire`, unless the node was heard of so recently that it can't be dead.
     RetireIfSilent {
@@ -134,6 +146,24 @@ fn read_session_fields(alloc: Global, reader: &mut Reader<'_>, kind: u8) -> Resu
     }
 }
 
+// The fields of a frame of a greeting, of that kind.
+fn read_greeting_fields(reader: &mut Reader<'_>, kind: u8) -> Result<Frame, WireFault>
+    requires { (33 ≤ kind) × (kind ≤ 35) }
+    ensures { Gives (λ x. (x, reader.new)) result (body_fields kind reader.old) }
+{
+    match kind {
+        33 => read_hello(reader).map(Frame::Hello),
+        34 => {
+            let heard = reader.u64()?;
+            Ok(Frame::Welcome { heard })
+        }
+        _ => {
+            let (reason, node) = read_unwelcome(reader)?;
+            Ok(Frame::Unwelcome { reason, node })
+        }
+    }
+}
+
 // The fields of a frame of that kind.
 fn read_body_fields(alloc: Global, reader: &mut Reader<'_>, kind: u8) -> Result<Frame, WireFault>
     ensures { Gives (λ x. (x, reader.new)) result (body_fields kind reader.old) }
@@ -161,6 +191,7 @@ fn read_body_fields(alloc: Global, reader: &mut Reader<'_>, kind: u8) -> Result<
             let (from, posts) = reader.skip()?;
             Ok(Frame::Skip { from, posts })
         }
+        33 | 34 | 35 => read_greeting_fields(reader, kind),
         36 => {
             let node = reader.id(1)?;
             Ok(Frame::RetireIfSilent { node })
@@ -337,6 +368,18 @@ fn put_body(out: &mut Vec<u8>, frame: &Frame) -> Result<(), AllocError>
         Frame::Skip { from, posts } => {
             put_u8(out, 32)?;
             put_skip(out, *from, *posts)
+        }
+        Frame::Hello(hello) => {
+            put_u8(out, 33)?;
+            put_hello(out, hello)
+        }
+        Frame::Welcome { heard } => {
+            put_u8(out, 34)?;
+            put_u64(out, *heard)
+        }
+        Frame::Unwelcome { reason, node } => {
+            put_u8(out, 35)?;
+            put_unwelcome(out, *reason, *node)
         }
         Frame::RetireIfSilent { node } => {
             put_u8(out, 36)?;

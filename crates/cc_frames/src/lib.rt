@@ -4,10 +4,12 @@
 
 mod frame;
 mod frame_reader;
+mod hello;
 mod sizes;
 
 pub use frame::{
     Frame, decode_frame, encode_frame, encode_post, encode_reply, one_spelling_of_frames,
 };
 pub use frame_reader::{Fed, FrameReader, feeds_any_cutting};
+pub use hello::{Hello, Quorum, Reason};
 pub use sizes::largest_body;

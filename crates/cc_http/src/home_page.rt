@@ -413,7 +413,8 @@ function showPeers(status) {
     state === "absent" ? ["absent for " + lasting(now - link.absent_since), "is-bad whole"] : [state, isAway(state) ? "is-bad" : ""],
     [wide(link.behind), "number"], [ago(now, link.last_heard), "whole"],
     link.connected_since === null ? ["no", "soft"] : ["for " + lasting(now - link.connected_since), "whole"],
-    link.address === null ? ["not among the peers", "soft"] : [link.address, "whole"],
+    link.trouble ? [`${link.address}: ${link.trouble}`, "is-bad"]
+      : link.address === null ? ["not among the peers", "soft"] : [link.address, "whole"],
   ], false);
 }
 

@@ -15,6 +15,25 @@ pub trait Hooks {
     fn after_sync(&self);
 }
 
+/// Hooks behind a reference.
+impl<H: Hooks> Hooks for &H {
+    fn before_accept(&self) {
+        (**self).before_accept();
+    }
+
+    fn after_accept(&self) {
+        (**self).after_accept();
+    }
+
+    fn before_sync(&self) {
+        (**self).before_sync();
+    }
+
+    fn after_sync(&self) {
+        (**self).after_sync();
+    }
+}
+
 /// Hooks that do nothing.
 #[derive(Clone, Copy, Default, PartialEq, Eq)]
 pub struct NoHooks;
@@ -31,12 +50,20 @@ impl Hooks for NoHooks {
 
 /// The site that it wraps, with hooks that are called round each sync.
 #[derive(Drop)]
-pub struct Hooked<'a, S: Site, H: Hooks> {
+pub struct Hooked<S: Site, H: Hooks> {
     pub site: S,
-    pub hooks: &'a H,
+    pub hooks: H,
 }
 
-impl<S: Site, H: Hooks> Site for Hooked<'_, S, H> {
+impl<S: Site, H: Hooks> Site for Hooked<S, H> {
+    const STRIDE: u64 = S::STRIDE;
+
+    ghost STRIDE = { S.STRIDE };
+
+    ghost has_stride = { S.has_stride };
+
+    ghost bounds_stride = { S.bounds_stride };
+
     ghost honest = { λ g. S.honest g.site };
 
     ghost tells = { λ g. S.tells g.site };

@@ -9,3 +9,4 @@ mod BodyReading
 mod RecordReading
 mod Scans
 mod ScanLaws
+mod Multiples

@@ -2,7 +2,12 @@
 --     Position            the side in use, and the place of the closed gate that ends its records
 --     IsWritten           a batch in flight
 --     record_room         how many bytes a record and its gate have at most
+--     write_room          how many bytes are written of a batch at most
 --     room_limit          below so many bytes of a side there is room for a record
+--     to_multiple         how many bytes are missing to the next multiple of a stride
+--     zeros_ahead         how many zeros go behind a record that ends there, on a side that is so long
+--     end_ahead           where those end
+--     bytes_ahead         a batch's record, its gate and those zeros
 --     with_record         that side, where a batch was written behind the gate
 --     with_open_gate      that side, where the gate was opened and all of it made sure of
 --     MayHaveOpened       what it may be where that failed
@@ -11,7 +16,7 @@
 --     IsGoodNow           whatever a crash leaves now, the moment is good, with all events durable
 --     KeepsGood           from every history that led to a call on, each moment of it is good
 --     StaysGood           the same of a call before which all events were durable, and so is the moment after it
-use Rattle.std.specs.Prelude.{◌≡◌, ◌⊎◌, ◌+◌, ◌^◌, ℕ, List, [], ◌∷◌, ◌++◌, length}
+use Rattle.std.specs.Prelude.{◌≡◌, ◌⊎◌, ◌+◌, ◌-◌, ◌%◌, ◌^◌, ◌&&◌, nat_lt, if◌then◌else◌, ℕ, List, [], ◌∷◌, ◌++◌, length, replicate}
 use Rattle.cc_messages.specs.declared.event.Event.{Event}
 use Rattle.cc_messages.specs.declared.output.Output.{Output}
 use Rattle.cc_site.specs.declared.site.Side.{Side}
@@ -39,12 +44,33 @@ pub record IsWritten (entries : List Entry) (bytes : ℕ) : Type 0 where
 abbrev pub record_room : ℕ
 record_room = 262149
 
+-- with the zeros behind them
+abbrev pub write_room : ℕ
+write_room = record_room + 262144
+
 abbrev pub room_limit : ℕ
 room_limit = 2 ^ 61
 
--- the record and the closed gate behind it, written over what was behind the gate at `place`
-abbrev pub with_record : SideState → ℕ → List Entry → SideState
-with_record s place entries = written s (place + 1) (batch_bytes entries)
+-- none where the length is one
+abbrev pub to_multiple : (stride len : ℕ) → ℕ
+to_multiple stride len = (stride - len % stride) % stride
+
+-- None where the record ends within the side, nor where a side that is so long would have no room for a further record.
+abbrev pub zeros_ahead : (stride used end : ℕ) → ℕ
+zeros_ahead stride used end =
+    if nat_lt used end && nat_lt (end + to_multiple stride end) room_limit then to_multiple stride end else 0
+
+abbrev pub end_ahead : (stride used end : ℕ) → ℕ
+end_ahead stride used end = end + zeros_ahead stride used end
+
+-- the record goes behind the gate at `place`; the zeros behind it are closed gates too
+abbrev pub bytes_ahead : (stride used place : ℕ) → List Entry → List ℕ
+bytes_ahead stride used place entries =
+    batch_bytes entries ++ replicate (zeros_ahead stride used (place + 1 + length (batch_bytes entries))) 0
+
+-- these bytes written over what was behind the gate at `place`
+abbrev pub with_record : (stride used : ℕ) → SideState → ℕ → List Entry → SideState
+with_record stride used s place entries = written s (place + 1) (bytes_ahead stride used place entries)
 
 -- that gate open, and nothing of the side left to a crash
 abbrev pub with_open_gate : SideState → ℕ → SideState

@@ -12,12 +12,14 @@ ghost use Rattle.cc_node.specs.Node.{Node as NodeValue, after, line};
 ghost use Rattle.cc_sides.specs.Sides.{StandsBehind, SpellsBatch};
 ghost use Rattle.cc_journal.specs.Batches.{AreLawful, events_in, batch_bytes};
 ghost use Rattle.cc_journal.specs.Outlet.{Puts};
-ghost use Rattle.cc_journal.specs.Journals.{Position, with_record, with_open_gate, record_room, room_limit, KeepsGood, MayHaveOpened, RestsFor, RestsNow};
+ghost use Rattle.cc_journal.specs.Journals.{Position, bytes_ahead, end_ahead, with_record, with_open_gate, record_room, room_limit, KeepsGood};
+ghost use Rattle.cc_journal.specs.Journals.{MayHaveOpened, RestsFor, RestsNow};
 
+use crate::ahead::zeros_ahead;
 use crate::batch::Batch;
-use crate::record::put_record;
+use crate::record::{put_record, put_zeros};
 use cc_node::Node;
-use cc_site::{DeviceFault, OPEN_GATE, Side, Site, write_durably};
+use cc_site::{DeviceFault, OPEN_GATE, STRIDE_LIMIT, Side, Site, write_durably};
 use cc_views::NoMemory;
 use std::alloc::Global;
 use std::marker::Model;
@@ -93,8 +95,8 @@ impl From<DeviceFault> for Forfeit {
     }
 }
 
-/// Where the next record of a side goes: behind the closed gate that ends its records. It has the room of one record,
-/// so that neither `write` nor `append` takes memory.
+/// Where the next record of a side goes: behind the closed gate that ends its records. It has the room of one record and of
+/// the zeros behind it, so that neither `write` nor `append` takes memory.
 #[derive(Drop)]
 pub struct Journal {
     side: Side,
@@ -106,7 +108,7 @@ impl Model for Journal {
     ghost use Rattle.std.specs.Prelude.{◌≤◌};
     ghost use Rattle.std.specs.Vec.{vec_capacity};
     ghost use Rattle.cc_journal.specs.Codes.{position_code};
-    ghost use Rattle.cc_journal.specs.Journals.{Position as Place, record_room};
+    ghost use Rattle.cc_journal.specs.Journals.{Position as Place, write_room};
 
     ghost Value = { Place };
 
@@ -114,19 +116,19 @@ impl Model for Journal {
 
     ghost view = { λ j. record { side = j.side; place = j.place } };
 
-    ghost invariant = { λ j. record_room ≤ vec_capacity j.text };
+    ghost invariant = { λ j. write_room ≤ vec_capacity j.text };
 }
 
 impl Journal {
-    // How many bytes a record and its gate have at most.
-    const RECORD_ROOM: usize = 5 + Batch::MAX_BYTES;
+    // How many bytes a record, its gate and the zeros behind that have at most.
+    const WRITE_ROOM: usize = 5 + Batch::MAX_BYTES + STRIDE_LIMIT as usize;
 
     /// A journal of that side, whose next record goes behind the closed gate at `place`. NoMemory where a growth was
     /// refused.
     pub fn new(alloc: Global, side: Side, place: u64) -> Result<Self, NoMemory>
         ensures { IfOk result (λ j. j ≡ record { side = side; place = place }) }
     {
-        let text = Vec::with_capacity(alloc, Self::RECORD_ROOM)?;
+        let text = Vec::with_capacity(alloc, Self::WRITE_ROOM)?;
         Ok(Journal { side, place, text })
     }
 
@@ -153,8 +155,14 @@ impl Journal {
     }
 
     /// Writes the batch's record, and a closed gate, behind the closed gate that ends the records, without a sync. Until
-    /// `append` opens that gate the record doesn't count, so a crash leaves what was there.
-    pub fn write<S: Site>(&mut self, site: &mut S, batch: &Batch) -> Result<Flight, Forfeit>
+    /// `append` opens that gate the record doesn't count, so a crash leaves what was there. Where that makes the side longer
+    /// than the `used` bytes that it has, zeros go behind it in the same write, as many as `zeros_ahead` says.
+    pub fn write<S: Site>(
+        &mut self,
+        site: &mut S,
+        batch: &Batch,
+        used: u64,
+    ) -> Result<Flight, Forfeit>
         requires within { S.honest site.old → self.old.place + 1 ≤ length (S.state site.old self.old.side).bytes }
         requires room { self.old.place < room_limit }
         requires some { 1 ≤ length batch.now }
@@ -163,10 +171,10 @@ impl Journal {
         ensures honest { S.honest site.old ↔ S.honest site.new }
         ensures tells { (S.tells site.old ↔ S.tells site.new) × (S.sent site.new ≡ S.sent site.old) }
         ensures other_side { S.honest site.old → S.state site.new (other self.old.side) ≡ S.state site.old (other self.old.side) }
-        ensures holds { S.honest site.old → OnOk result (S.state site.new self.old.side ≡ with_record (S.state site.old self.old.side) self.old.place
-            batch.now) }
+        ensures holds { S.honest site.old → OnOk result (S.state site.new self.old.side ≡ with_record S.STRIDE used (S.state site.old self.old.side)
+            self.old.place batch.now) }
         ensures failed { S.honest site.old → OnErr result (HalfWritten (S.state site.old self.old.side)
-            (self.old.place + 1) (length (batch_bytes batch.now)) (S.state site.new self.old.side)
+            (self.old.place + 1) (length (bytes_ahead S.STRIDE used self.old.place batch.now)) (S.state site.new self.old.side)
             ⊎ (S.state site.new self.old.side ≡ S.state site.old self.old.side)) }
         ensures every_moment { S.honest site.old → (generation : ℕ) → KeepsGood S.Site (RestsNow S.Site site.old self.old generation)
             (events_in batch.now) site.old site.new }
@@ -175,12 +183,14 @@ impl Journal {
         ensures within { S.honest site.old → OnOk result (self.old.place + 1 ≤ length (S.state site.new self.old.side).bytes) }
         ensures behind { S.honest site.old → OnOk result (StandsBehind (S.state site.new self.old.side).bytes self.old.place (batch_bytes batch.now)) }
         ensures length { S.honest site.old → OnOk result (length (S.state site.new self.old.side).bytes
-            ≡ max (length (S.state site.old self.old.side).bytes) (self.old.place + 1 + length (batch_bytes batch.now))) }
+            ≡ max (length (S.state site.old self.old.side).bytes) (end_ahead S.STRIDE used (self.old.place + 1 + length (batch_bytes batch.now)))) }
         ensures device { IfErr result (λ forfeit. forfeit.fault ≡ record { side = self.old.side; call = Write }) }
         ensures fault { MatchResult result (λ _. S.failures site.new ≡ S.failures site.old) (λ forfeit. Rose (S.failures site.old) (S.failures site.new)) }
     {
         put_record(&mut self.text, batch);
         let size = self.text.len() as u64;
+        let end = self.place + 1 + size;
+        put_zeros(&mut self.text, zeros_ahead(S::STRIDE, used, end));
         site.write_at(self.side, self.place + 1, &self.text)?;
         Ok(Flight {
             batch: Snapshot::of(batch),

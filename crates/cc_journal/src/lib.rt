@@ -1,6 +1,7 @@
 //! Batches of events, the records that make them durable, each behind a gate, and what they put out then.
 #![tactic(auto)]
 
+mod ahead;
 mod batch;
 mod entry;
 mod events;
@@ -10,6 +11,7 @@ mod outlet;
 mod record;
 mod scanning;
 
+pub use ahead::{ROOM_LIMIT, zeros_ahead};
 pub use batch::Batch;
 pub use entry::Entry;
 pub use journal::{Flight, Forfeit, Journal, Landed};

@@ -1,6 +1,6 @@
 //! The bytes of a batch.
 
-ghost use Rattle.std.specs.Prelude.{◌≡◌, ◌≤◌, ◌<◌, ◌∷◌, [], ◌++◌, ◌+◌, length};
+ghost use Rattle.std.specs.Prelude.{◌≡◌, ◌≤◌, ◌<◌, ◌∷◌, [], ◌++◌, ◌+◌, length, replicate};
 ghost use Rattle.std.specs.List.{flat_map, AllByRecursion};
 ghost use Rattle.std.specs.Vec.{vec_capacity};
 ghost use Rattle.cc_wire.specs.Events.{IsEvent};
@@ -19,13 +19,23 @@ pub(crate) fn put_record(text: &mut Vec<u8>, batch: &Batch)
     requires room { record_room ≤ vec_capacity text.old }
     ensures bytes { text.new.items ≡ batch_bytes batch.now }
     ensures spelled { SpellsRecord (record_spelling (events_in batch.now)) (events_in batch.now) }
-    ensures room { record_room ≤ vec_capacity text.new }
+    ensures grows { vec_capacity text.old ≤ vec_capacity text.new }
 {
     text.clear();
     put_u32(text, batch.size() as u32).unwrap();
     put_u8(text, batch.len() as u8).unwrap();
     put_events(text, batch.entries());
     put_u8(text, CLOSED_GATE).unwrap();
+}
+
+// Appends so many zeros, each of which is a closed gate.
+pub(crate) fn put_zeros(text: &mut Vec<u8>, count: u64)
+    requires room { length text.old.items + count ≤ vec_capacity text.old }
+    ensures bytes { text.new.items ≡ text.old.items ++ replicate count 0 }
+    ensures grows { vec_capacity text.old ≤ vec_capacity text.new }
+{
+    let len = text.len() + count as usize;
+    text.resize(len, CLOSED_GATE).unwrap();
 }
 
 // Appends the events, each behind its size.

@@ -88,6 +88,9 @@ pub struct PeerPart<'a> {
     pub absent_since: Option<u64>,
     /// Whether nothing of it was heard for a while. An older node doesn't tell.
     pub is_silent: bool,
+    /// Why the node and the peer don't take each other, in words behind the peer's name. None where they do, and where the node's
+    /// program doesn't tell.
+    pub trouble: Option<&'a str>,
     /// How many posts it hasn't acknowledged.
     pub behind: u64,
     pub acknowledged: u64,
@@ -374,6 +377,7 @@ impl<'a> PeerPart<'a> {
             connected_since: number(value, "connected_since"),
             absent_since: number(value, "absent_since"),
             is_silent: flag(value, "is_silent").unwrap_or(false),
+            trouble: text(value, "trouble"),
             behind,
             acknowledged,
             heard,

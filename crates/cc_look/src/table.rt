@@ -202,7 +202,11 @@ fn print_contact<W: fmt::Write>(
         (None, Some(since)) => write!(f, ", connected for {} s", seconds_since(since, now)),
         (None, None) => write!(f, ", not connected"),
     }?;
-    write!(f, "{}", if peer.is_silent { ", silent" } else { "" })
+    write!(f, "{}", if peer.is_silent { ", silent" } else { "" })?;
+    match peer.trouble {
+        Some(words) => write!(f, ", {}", Harmless(words)),
+        None => Ok(()),
+    }
 }
 
 fn print_rows<W: fmt::Write>(f: &mut fmt::Formatter<W>, rows: &[Value]) -> fmt::Result {

@@ -9,4 +9,5 @@ pub struct FormatWords<'a> {
     pub beta: Option<&'a str>,
     pub gamma: Option<&'a str>,
     pub share: Option<&'a str>,
+    pub cluster: Option<&'a str>,
 }

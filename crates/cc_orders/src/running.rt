@@ -3,7 +3,7 @@
 use crate::word_fault::WordFault;
 use cc_addresses::{Address, Peer};
 use cc_views::NodeId;
-use cc_words::{address, peers, peers_in_lines};
+use cc_words::{Speech, address, peers, peers_in_lines};
 use std::alloc::Global;
 
 /// The words of `run` behind its folder, as they are given. None for an option that isn't.
@@ -12,7 +12,7 @@ pub struct RunWords<'a> {
     pub listen: &'a str,
     pub listen_clients: Option<&'a str>,
     pub operators: Option<&'a str>,
-    pub answers: Option<&'a str>,
+    pub speaks: Option<&'a str>,
     pub peers: Option<&'a str>,
     /// The path of a file whose lines are the peers.
     pub peers_file: Option<&'a str>,
@@ -50,8 +50,8 @@ pub struct RunOrder {
     pub listen_clients: Option<Address>,
     /// Whether it takes the operator's requests that come from other machines.
     pub remote_operators: bool,
-    /// Whether the answers to an operation go to all nodes, not to that alone which asked.
-    pub answers_to_all: bool,
+    /// What it speaks to other nodes.
+    pub speech: Speech,
     pub peers: Vec<Peer>,
     /// Where it tells its status. None where it doesn't.
     pub status: Option<Address>,
@@ -60,7 +60,7 @@ pub struct RunOrder {
 
 impl RunOrder {
     /// What these words ask for: the address behind `--listen`, those behind `--listen-clients` and `--status` where they are
-    /// given, whether `--operators` is on, as it is where it isn't given, whether `--answers` go to all, as they don't where it
+    /// given, whether `--operators` is on, as it is where it isn't given, what it `--speaks`, which is that of this program where it
     /// isn't given, the peers behind `--peers` or those on the lines of
     /// the file behind `--peers-file`, none where neither is given, and the level behind `--log`, else info. `lines` is the
     /// text of that file. A peer that is named twice is a fault.
@@ -72,7 +72,7 @@ impl RunOrder {
         let listen = address(words.listen).ok_or(WordFault::Listen)?;
         let listen_clients = address_in(words.listen_clients, WordFault::ListenClients)?;
         let remote_operators = switch_in(words.operators)?;
-        let answers_to_all = answers_in(words.answers)?;
+        let speech = speech_in(words.speaks)?;
         let status = address_in(words.status, WordFault::Status)?;
         let log = level_in(words.log)?;
         if words.peers.is_some() && words.peers_file.is_some() {
@@ -83,7 +83,7 @@ impl RunOrder {
             listen,
             listen_clients,
             remote_operators,
-            answers_to_all,
+            speech,
             peers,
             status,
             log,
@@ -124,12 +124,10 @@ fn switch_in(word: Option<&str>) -> Result<bool, WordFault> {
     }
 }
 
-// Whether answers go to all: to the node alone that asked, unless it says `all`.
-fn answers_in(word: Option<&str>) -> Result<bool, WordFault> {
-    match word.unwrap_or("asker") {
-        "asker" => Ok(false),
-        "all" => Ok(true),
-        _ => Err(WordFault::Answers),
+fn speech_in(word: Option<&str>) -> Result<Speech, WordFault> {
+    match word {
+        Some(word) => Speech::named(word).ok_or(WordFault::Speaks),
+        None => Ok(Speech::Now),
     }
 }
 

@@ -14,11 +14,12 @@ pub enum WordFault {
     Beta,
     Gamma,
     Share,
+    Cluster,
     Address,
     Listen,
     ListenClients,
     Operators,
-    Answers,
+    Speaks,
     Peers,
     PeerTwice,
     PeerItself,
@@ -62,13 +63,16 @@ impl WordFault {
             WordFault::Beta => "--beta isn't a fraction, such as 4/5",
             WordFault::Gamma => "--gamma isn't a fraction, such as 4/5",
             WordFault::Share => "--share isn't a number, such as 32",
+            WordFault::Cluster => {
+                "--cluster isn't a name of 1 to 64 letters, digits, `-`, `.` and `_`, such as blue"
+            }
             WordFault::Address => "ADDR isn't an address and a port, such as 127.0.0.1:7001",
             WordFault::Listen => "--listen isn't an address and a port, such as 127.0.0.1:7001",
             WordFault::ListenClients => {
                 "--listen-clients isn't an address and a port, such as 127.0.0.1:7501"
             }
             WordFault::Operators => "--operators isn't one of: on, off",
-            WordFault::Answers => "--answers isn't one of: asker, all",
+            WordFault::Speaks => "--speaks isn't one of: now, 0.1",
             WordFault::Peers => {
                 "--peers isn't a list of peers, such as 2=127.0.0.1:7002,3=127.0.0.1:7003"
             }

@@ -12,3 +12,4 @@ mod StirLaws
 mod WishingLaws
 mod LastAskLaws
 mod WithholdingLaws
+mod GreetingLaws

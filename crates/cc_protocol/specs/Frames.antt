@@ -1,5 +1,5 @@
 -- What a frame brings, and which frame an output or a refusal is.
---     event_in           the event that a frame is; none where a node only sends such frames
+--     event_in           the event that a frame is; none where a node only sends such frames, nor of a greeting
 --     output_frame       an output, as the frame of the node that sends it
 --     due_spelling       what is written to a peer once a post was put for it
 --     refusing           the frame that tells a client why its request was refused
@@ -27,6 +27,9 @@ event_in (frame.Refused session request refusal value) = None
 event_in frame.Leave = Some event.Leave
 event_in (frame.Retire node) = Some (event.Retire node)
 event_in (frame.Skip from posts) = Some (event.Skip from posts)
+event_in (frame.Hello hello) = None
+event_in (frame.Welcome heard) = None
+event_in (frame.Unwelcome reason node) = None
 event_in (frame.RetireIfSilent node) = Some (event.Retire node)
 event_in (frame.Share share) = Some (event.Share share)
 

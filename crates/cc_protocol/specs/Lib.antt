@@ -9,6 +9,7 @@ pub mod Sharing
 pub mod Objecting
 pub mod Routing
 pub mod Speaking
+pub mod Greeting
 pub mod Silence
 pub mod Standing
 pub mod Standings

@@ -11,7 +11,8 @@ use cc_messages::{Answer, Event, Message, PostRange, Refusal};
 use cc_views::{NoMemory, NodeId};
 use std::alloc::Global;
 
-/// The event that a frame brings. None for a frame that a node only sends: then the connection is to be closed.
+/// The event that a frame brings. None for a frame that a node only sends, and for a greeting: then the connection is to be
+/// closed.
 pub fn event_of(frame: Frame) -> Option<Event>
     ensures { result ≡ event_in frame }
 {
@@ -36,6 +37,7 @@ pub fn event_of(frame: Frame) -> Option<Event>
             command,
         }),
         Frame::Reply { .. } | Frame::Refused { .. } => None,
+        Frame::Hello(_) | Frame::Welcome { .. } | Frame::Unwelcome { .. } => None,
         Frame::Leave => Some(Event::Leave),
         Frame::Retire { node } | Frame::RetireIfSilent { node } => Some(Event::Retire { node }),
         Frame::Skip { from, posts } => Some(Event::Skip { from, posts }),

@@ -7,6 +7,7 @@ mod asking;
 mod bundle;
 mod calling;
 mod frames;
+mod greeting;
 mod heeding;
 mod incoming;
 mod last_asks;
@@ -34,6 +35,10 @@ pub use asking::{
 pub use bundle::{Bundle, Parcel};
 pub use calling::{Calls, snapshots_keep_apart};
 pub use frames::{ack_frame, due_bytes, event_of, refused_frame, reply_bytes, skip_bytes};
+pub use greeting::{
+    Greeted, Greeter, Greetings, Met, PeerGreeting, Recipient, answer_to, greeter_after,
+    greetings_are_remembered, is_old_copy, met_by, why_unwelcome,
+};
 pub use heeding::{Duty, heed};
 pub use incoming::{Ending, Incoming, Input};
 pub use last_asks::LastAsks;
@@ -43,7 +48,7 @@ pub use operating::{
     Lefts, Objection, Outcome, Retirement, a_retirement_is_told, objection_frame,
     objections_are_told, outcome_of, probe_frame, second_request_is_left,
 };
-pub use origin::{Access, Admitted, Origin};
+pub use origin::{Access, Admitted, Origin, may_speak, speaker_of, who_speaks_has_greeted};
 pub use route::Route;
 pub use routes::{Routes, answers_follow_asks};
 pub use sharing::{a_share_is_told, share_outcome_of};

@@ -1,9 +1,10 @@
 //! Where connections come from, and what they may bring.
 
 ghost use Rattle.std.specs.Prelude.{◌≡◌};
-ghost use Rattle.cc_protocol.specs.Access.{access_of, allows};
+ghost use Rattle.cc_protocol.specs.Access.{access_of, allows, may_speak, may_speak_as, speaker, HasGreeted};
 
 use cc_messages::Event;
+use cc_views::NodeId;
 
 /// Where a connection comes from.
 #[derive(Clone, Copy, PartialEq, Eq)]
@@ -75,3 +76,39 @@ pub struct Admitted {
     /// What it may bring: where it is one beyond the bounds, the operator's requests alone.
     pub access: Access,
 }
+
+/// The node that sends what brings such an event. None where no node sends that.
+pub fn speaker_of(event: &Event) -> Option<NodeId>
+    ensures { result ≡ speaker event.now }
+{
+    match event {
+        Event::Deliver { from, .. } | Event::Skip { from, .. } => Some(*from),
+        Event::Acked { peer, .. } => Some(*peer),
+        _ => None,
+    }
+}
+
+/// Whether such an event may come over a connection, by who greeted over it: what a node sends may where that very node
+/// greeted. Where nobody did it may too, unless the node that gets it needs a greeting first.
+pub fn may_speak(greeter: Option<NodeId>, needs_greeting: bool, event: &Event) -> bool
+    ensures { result ≡ may_speak greeter needs_greeting event.now }
+{
+    match speaker_of(event) {
+        Some(node) => may_speak_as(greeter, needs_greeting, node),
+        None => true,
+    }
+}
+
+fn may_speak_as(greeter: Option<NodeId>, needs_greeting: bool, node: NodeId) -> bool
+    ensures { result ≡ may_speak_as greeter needs_greeting node }
+{
+    match greeter {
+        Some(greeter) => greeter == node,
+        None => !needs_greeting,
+    }
+}
+
+/// Where a greeting is needed, what comes of a node comes over a connection over which that very node greeted.
+pub fn who_speaks_has_greeted()
+    ensures { HasGreeted }
+{}

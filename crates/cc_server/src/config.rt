@@ -1,6 +1,7 @@
 //! What a node is run with.
 
 use cc_addresses::{Address, Peer};
+use cc_words::{Identity, Speech};
 
 /// What a node is run with.
 #[derive(Drop)]
@@ -13,9 +14,12 @@ pub struct Config<'a> {
     pub listen_clients: Option<Address>,
     /// Whether it takes the operator's requests that come from other machines.
     pub remote_operators: bool,
-    /// Whether the answers to an operation go to all nodes, as programs take them that know no Skip; else to the node alone
-    /// that asked.
-    pub answers_to_all: bool,
+    /// What the node is of, and when its folder was formatted.
+    pub identity: Identity,
+    /// 64 random bits that it took when it was started.
+    pub run: u64,
+    /// What it speaks to other nodes.
+    pub speech: Speech,
     /// Where other nodes listen. What is for one that isn't among them is lost.
     pub peers: Vec<Peer>,
     /// The file that says so, one peer a line, if there is one: it is read again while the node runs.

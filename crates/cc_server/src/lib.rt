@@ -1,17 +1,8 @@
-//! A node over TCP: a worker and a writer for each connection, a writer for each peer, a worker for what the node sends to
-//! itself, one flusher, one ticker, a writer of notes, and one that follows the file of the peers.
+//! A node over TCP: a worker and a writer for each connection, a dialler for each peer, a worker for what the node sends to
+//! itself, one flusher, one ticker, a writer of notes, and one that follows the file of the peers. Here they are started and end.
 #![tactic(auto)]
 
-mod attending;
-mod caller;
 mod config;
-mod context;
-mod duties;
-mod flushing;
-mod measured;
-mod of_life;
-mod own;
-mod replies;
 mod run;
 mod run_fault;
 mod threads;

@@ -5,25 +5,29 @@ ghost use Rattle.cc_journal.specs.declared.entry.Entry.{Entry as EntryValue};
 ghost use Rattle.cc_intake.specs.Accepting.{share_limit};
 
 use crate::config::Config;
-use crate::context::Context;
-use crate::measured::Measured;
-use crate::of_life::OfLife;
 use crate::run_fault::RunFault;
 use crate::threads::{cut, live};
 use cc_addresses::Address;
-use cc_channels::{Admission, Durable, Stop, millis};
+use cc_channels::{Admission, Durable, millis};
 use cc_files::FileSite;
+use cc_flags::Stop;
 use cc_flush::{Back, Failed, Flusher, open_anew};
+use cc_flushing::Measured;
+use cc_frames::Quorum;
 use cc_intake::{
     Ends, Finished, Hooked, Hooks, Intake, Lane, Life, Queue, Share, Turner, finish, lane, start,
 };
+use cc_life::OfLife;
 use cc_messages::Event;
 use cc_node::Core;
-use cc_protocol::Routes;
-use cc_shared::{Inlets, Listeners, Machine, ServerOutlet, Shared, note_opened};
+use cc_protocol::{Greeter, Recipient, Routes};
+use cc_shared::{
+    Inlets, Listeners, Machine, Notice, ServerOutlet, Shared, give_notice, note_opened,
+};
 use cc_site::Site;
 use cc_views::NodeId;
 use cc_watch::Board;
+use cc_workers::Context;
 use log::{Log, error, info};
 use std::alloc::Global;
 use std::fs::{File, Files};
@@ -133,7 +137,7 @@ where
     R: Machine,
     F: Files<File = File>,
 {
-    let outlet = ServerOutlet::new(run.rt, run.alloc, run.shared, run.config.answers_to_all);
+    let outlet = ServerOutlet::new(run.rt, run.alloc, run.shared, run.config.speech.is_before());
     let site = match FileSite::open(files, run.alloc, run.config.dir, outlet) {
         Ok(site) => site,
         Err(fault) => {
@@ -175,6 +179,7 @@ where
         Ok(listeners) => {
             let me = core.me();
             let address = place_of(&listeners.node).unwrap_or(run.config.listen);
+            begin_greetings(run, &core);
             run.shared.known.learn_links(run.rt, &core);
             note(run, me, "runs", address);
             note_clients(run, me, &listeners);
@@ -187,7 +192,7 @@ where
             };
             let outcome = run_as::<Brand, S, R, H>(run, ready, Blank::new(1 << 20));
             note(run, me, "ends", address);
-            outcome
+            or_old_copy(run.shared, outcome)
         }
         Err(fault) => {
             drop(engine);
@@ -233,6 +238,69 @@ where
         clients,
         pages,
     })
+}
+
+// Has the node greet and take greetings: with what it is, and what its state has of its peers.
+fn begin_greetings<R: Wait + Log, H>(run: &Run<'_, R, H>, core: &Core) {
+    let shared = run.shared;
+    shared.learn_marks(core);
+    shared
+        .reception
+        .learn_left(run.rt, core.churn().changes().left());
+    if run.config.identity.cluster.as_bytes().is_empty() {
+        give_notice(run.rt, core.me(), &Notice::Nameless);
+    } else {
+        shared.dialling.need_greeting();
+    }
+    if let Some(me) = recipient_of(run, core) {
+        shared.reception.begin(me);
+    }
+    if !run.config.speech.is_before() {
+        begin_dialling(run, core);
+    }
+}
+
+// What the node compares greetings with.
+fn recipient_of<R, H>(run: &Run<'_, R, H>, core: &Core) -> Option<Recipient> {
+    let beta = Quorum::new(core.beta())?;
+    let gamma = Quorum::new(core.gamma())?;
+    Some(Recipient {
+        cluster: run.config.identity.cluster,
+        node: core.me(),
+        beta,
+        gamma,
+    })
+}
+
+// Has the node greet its peers.
+fn begin_dialling<R, H>(run: &Run<'_, R, H>, core: &Core) {
+    if let Some(me) = recipient_of(run, core) {
+        let greeter = Greeter {
+            me,
+            birth: run.config.identity.birth,
+            run: run.config.run,
+        };
+        let peers = run.config.peers.len() as u64;
+        run.shared.dialling.begin(greeter, peers);
+    }
+}
+
+// What a run came to, unless its folder is an old copy.
+fn or_old_copy(
+    shared: &Shared,
+    outcome: Result<Finished<()>, RunFault>,
+) -> Result<Finished<()>, RunFault> {
+    match shared.dialling.old_copy() {
+        Some(old_copy) => {
+            drop(outcome);
+            Err(RunFault::OldCopy {
+                peer: old_copy.peer.number(),
+                heard: old_copy.heard,
+                posted: old_copy.posted,
+            })
+        }
+        None => outcome,
+    }
 }
 
 // Listens at an address, if there is one.
@@ -407,7 +475,7 @@ where
         queue: &queue,
         shares: &shares,
     };
-    let (watch, far_ends) = cut(inlets, run.alloc, me, run.shared);
+    let (watch, far_ends) = cut(inlets, run.alloc, run.shared);
     let outcome = live(&context, &mut turner, watch, far_ends, &listeners, run.stop);
     drop(listeners);
     let finished = finish(

@@ -23,11 +23,14 @@ pub enum RunFault {
     Listen,
     /// It is named among its own peers.
     OwnPeer,
+    /// Its folder is behind what was told of it: the peer with this id has taken in its posts up to `heard`, and up to `posted` it
+    /// ever posted to that one.
+    OldCopy { peer: u32, heard: u64, posted: u64 },
     /// A growth was refused, or a thread.
     NoMemory,
 }
 
-/// The fault of opening, `Failed` and the disk call, `Listen`, `OwnPeer` or `NoMemory`.
+/// The fault of opening, `Failed` and the disk call, `Listen`, `OwnPeer`, `OldCopy PEER HEARD POSTED` or `NoMemory`.
 impl fmt::Display for RunFault {
     fn fmt<W: fmt::Write>(&self, f: &mut fmt::Formatter<W>) -> fmt::Result {
         match self {
@@ -35,6 +38,11 @@ impl fmt::Display for RunFault {
             RunFault::Failed(failed) => write!(f, "{failed}"),
             RunFault::Listen => f.write_str("Listen"),
             RunFault::OwnPeer => f.write_str("OwnPeer"),
+            RunFault::OldCopy {
+                peer,
+                heard,
+                posted,
+            } => write!(f, "OldCopy {peer} {heard} {posted}"),
             RunFault::NoMemory => f.write_str("NoMemory"),
         }
     }

@@ -2,21 +2,19 @@
 
 ghost use Rattle.std.specs.Thread.{IsSend};
 
-use crate::attending::attend;
-use crate::context::Context;
-use crate::flushing::{Watch, flush_all};
-use crate::of_life::OfLife;
-use crate::own::serve_own;
-use cc_channels::{Admission, FarEnd, Flag, Stop, write_peer};
+use cc_channels::{Admission, FarEnd};
+use cc_dialling::{Dialler, Follower, dial_peer, follow_peers};
+use cc_flags::{Flag, Stop};
 use cc_flush::Failed;
+use cc_flushing::{Watch, flush_all};
 use cc_intake::{Hooks, Lane, Life, Queue, Turner};
+use cc_life::OfLife;
 use cc_messages::Event;
 use cc_shared::{
-    Follower, Inlets, Listeners, Machine, Note, Port, Shared, follow_peers, show_until, tick_until,
-    write_notes,
+    Inlets, Listeners, Machine, Note, Port, Shared, show_until, tick_until, write_notes,
 };
 use cc_site::Site;
-use cc_views::NodeId;
+use cc_workers::{Context, attend, serve_own};
 use crossbeam_channel::Receiver;
 use std::alloc::Global;
 use std::net::TcpListener;
@@ -28,17 +26,16 @@ use std::time::{Clock, Duration};
 // How long the acceptor pauses after a connection that can't be accepted, in milliseconds.
 const PAUSE_MS: u64 = 50;
 
-/// What the writers of the peers and of notes, and the worker of the own messages, take out of.
+/// What the diallers of the peers, the writer of notes and the worker of the own messages take out of.
 #[derive(Drop)]
 pub struct FarEnds {
-    pub me: NodeId,
     pub far: Vec<FarEnd>,
     pub own: Receiver<Option<Event>>,
     pub notes: Receiver<Option<Note>>,
 }
 
-/// What the flusher takes out of, and what the workers and writers of the node `me` do.
-pub fn cut(inlets: Inlets, alloc: Global, me: NodeId, shared: &Shared) -> (Watch<'_>, FarEnds) {
+/// What the flusher takes out of, and what the workers and writers do.
+pub fn cut(inlets: Inlets, alloc: Global, shared: &Shared) -> (Watch<'_>, FarEnds) {
     let Inlets {
         parker,
         far,
@@ -50,12 +47,7 @@ pub fn cut(inlets: Inlets, alloc: Global, me: NodeId, shared: &Shared) -> (Watch
         parker,
         shared,
     };
-    let ends = FarEnds {
-        me,
-        far,
-        own,
-        notes,
-    };
+    let ends = FarEnds { far, own, notes };
     (watch, ends)
 }
 
@@ -134,8 +126,8 @@ where
     is_served
 }
 
-// Starts the writers, the worker of the own messages and the acceptor for clients, accepts connections until a flag is set,
-// and then ends the writers to peers first and the workers next. False, and nothing is accepted, where a thread of these can't
+// Starts the diallers, the worker of the own messages and the acceptor for clients, accepts connections until a flag is set,
+// and then ends the diallers first and the workers next. False, and nothing is accepted, where a thread of these can't
 // be made.
 fn serve_all<L: Life + Send + Sync, Q: Lane + Send + Sync, R, H: Hooks + Sync>(
     context: &Context<'_, R, H, L, Q>,
@@ -147,39 +139,41 @@ where
     R: Machine,
 {
     let (rt, alloc) = (context.rt, context.alloc);
-    let waker = &context.shared.waker;
     let over = Flag::new();
     let over = &over;
-    let FarEnds {
-        me,
-        far,
-        own,
-        notes,
-    } = ends;
+    let dialler = Dialler {
+        alloc,
+        me: context.me,
+        dialling: &context.shared.dialling,
+        waker: &context.shared.waker,
+        over,
+    };
+    let dialler = &dialler;
+    let FarEnds { far, own, notes } = ends;
     thread::scope(
         thread::scope_env(),
         rt,
         |scope| -> bool
             requires { IsSend L.row × IsSend Q.row }
         {
-            let mut writers = Vec::new(alloc);
+            let mut diallers = Vec::new(alloc);
             let mut is_whole = true;
             for end in far {
-                match scope.spawn(move || write_peer(rt, alloc, me, end, waker, over)) {
-                    Ok(writer) => {
-                        let _ = writers.push(writer);
+                match scope.spawn(move || dial_peer(rt, dialler, end)) {
+                    Ok(started) => {
+                        let _ = diallers.push(started);
                     }
                     Err(_) => is_whole = false,
                 }
             }
-            is_whole &= start_inner(scope, context, own, notes, over);
+            is_whole &= start_inner(scope, context, own, notes, dialler);
             is_whole = start_clients(scope, context, listeners, stop, is_whole);
             if is_whole {
                 accept_all(scope, context, &listeners.node, Port::Nodes, stop);
             }
             over.set();
-            for writer in writers {
-                writer.join(rt);
+            for started in diallers {
+                started.join(rt);
             }
             context.shared.own.end(rt);
             context.shared.notes.end(rt);
@@ -196,7 +190,7 @@ fn start_inner<'s, 'e: 's, L: Life + Send + Sync, Q: Lane + Send + Sync, R, H: H
     context: &'e Context<'e, R, H, L, Q>,
     own: Receiver<Option<Event>>,
     notes: Receiver<Option<Note>>,
-    over: &'e Flag,
+    dialler: &'e Dialler<'e>,
 ) -> bool
 where
     R: Machine,
@@ -208,12 +202,15 @@ where
     let is_noted = scope
         .spawn(move || write_notes(rt, me, dir, &notes))
         .is_ok();
-    let is_followed = scope.spawn(move || follow(context, over)).is_ok();
+    let is_followed = scope.spawn(move || follow(context, dialler)).is_ok();
     is_served && is_noted && is_followed
 }
 
 // Follows the file of the peers until the flag is set, if there is one.
-fn follow<L: Life, Q: Lane, R, H: Hooks + Sync>(context: &Context<'_, R, H, L, Q>, over: &Flag)
+fn follow<L: Life, Q: Lane, R, H: Hooks + Sync>(
+    context: &Context<'_, R, H, L, Q>,
+    dialler: &Dialler<'_>,
+)
 where
     R: Machine,
 {
@@ -224,7 +221,7 @@ where
             listen_clients: context.listen_clients,
             path,
             shared: context.shared,
-            over,
+            dialler,
         };
         follow_peers(context.rt, context.alloc, &follower);
     }
@@ -286,7 +283,7 @@ where
 {
     for _ in context.rt.forever() {
         let accepted = listener.accept();
-        if stop.is_set() || context.shared.ended.is_set() {
+        if stop.is_set() || context.shared.has_ended() {
             return;
         }
         match accepted {

@@ -2,7 +2,6 @@
 //! event is decided here, and none is made durable: `cc_server` brings these to the intake and the engine.
 #![tactic(auto)]
 
-mod following;
 mod known;
 mod listeners;
 mod looking;
@@ -12,13 +11,13 @@ mod notes;
 mod opening;
 mod outlet;
 mod pages;
+mod reception;
 mod shared;
 mod showing;
 mod ticker;
-mod timed_input;
 mod visit;
+mod visitor;
 
-pub use following::{Follower, follow_peers};
 pub use known::Known;
 pub use listeners::{Listeners, Port};
 pub use looking::{Looks, look, tell_withheld};
@@ -28,8 +27,9 @@ pub use notes::{Instruction, Note, NoteChannel, Notice, Waiting, give_notice, wr
 pub use opening::note_opened;
 pub use outlet::ServerOutlet;
 pub use pages::show_until;
+pub use reception::Reception;
 pub use shared::{Inlets, Shared};
 pub use showing::{Tally, pass_second};
 pub use ticker::tick_until;
-pub use timed_input::{Patience, TimedInput};
 pub use visit::{Pen, admit, bound_of, connection_over, patience_of, write_out};
+pub use visitor::Visitor;

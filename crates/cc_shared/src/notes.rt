@@ -1,7 +1,9 @@
 //! What a running node notes of its peers on standard error.
 
 use cc_addresses::Address;
+use cc_channels::words_of;
 use cc_files::file_name;
+use cc_frames::Reason;
 use cc_messages::Share;
 use cc_protocol::{AskName, Lasting};
 use cc_site::Side;
@@ -177,6 +179,17 @@ pub enum Notice<'a> {
     Elsewhere(NodeId, Address),
     /// A peer has no line in the file of the peers any more.
     Unlisted(NodeId),
+    /// A node isn't taken that greets from there, for that reason.
+    Unwelcome {
+        node: NodeId,
+        from: SocketAddr,
+        at: Address,
+        reason: Reason,
+    },
+    /// Two processes greet in turn as a node. The last one does from there.
+    Doubled(NodeId, SocketAddr),
+    /// The folder names no cluster.
+    Nameless,
     /// The operator asked that, from there, and it is done.
     Told {
         instruction: Instruction,
@@ -197,8 +210,13 @@ impl Notice<'_> {
             | Notice::Added(..)
             | Notice::Elsewhere(..)
             | Notice::Unknown(_)
+            | Notice::Nameless
             | Notice::Told { .. } => Level::Info,
-            Notice::Unreachable(_) | Notice::Unlisted(_) | Notice::NotTaken { .. } => Level::Warn,
+            Notice::Unreachable(_)
+            | Notice::Unlisted(_)
+            | Notice::Unwelcome { .. }
+            | Notice::Doubled(..)
+            | Notice::NotTaken { .. } => Level::Warn,
         }
     }
 }
@@ -229,6 +247,23 @@ impl fmt::Display for Notice<'_> {
                 "keeps node {} among its peers until it is started again: its line is gone",
                 peer.number()
             ),
+            Notice::Unwelcome {
+                node,
+                from,
+                at,
+                reason,
+            } => write!(
+                f,
+                "doesn't take node {}, which came from {from} to {at}: it {}",
+                node.number(),
+                words_of(reason)
+            ),
+            Notice::Doubled(node, from) => write!(
+                f,
+                "is greeted by two processes in turn that are node {}, the last time from {from}",
+                node.number()
+            ),
+            Notice::Nameless => f.write_str("has no name of a cluster in its folder"),
             Notice::Told { instruction, from } => print_instruction(f, instruction, from),
             Notice::NotTaken { file, why } => write!(
                 f,

@@ -76,6 +76,7 @@ impl<'a, R: Wait> ServerOutlet<'a, R> {
     fn post(&self, me: NodeId, channel: &PeerChannel, number: u64, message: &Message)
         requires { 1 ≤ number }
     {
+        channel.marks().post(number);
         if channel.is_muted() {
             return;
         }
@@ -135,6 +136,7 @@ impl<R: Wait> Outlet for ServerOutlet<'_, R> {
         if to == *me {
             self.hear(Event::Acked { peer: to, number });
         } else if let Some(channel) = self.shared.channel_to(to) {
+            channel.marks().hear(number);
             channel.put(self.rt, *me, Parcel::Ack(number));
             self.is_due = true;
         }

@@ -2,13 +2,16 @@
 
 use crate::known::Known;
 use crate::notes::{Note, NoteChannel, note_channel};
+use crate::reception::Reception;
 use cc_addresses::Peer;
 use cc_channels::{
-    Connections, FarEnd, Flag, Grants, OwnChannel, PeerChannel, PeerChannels, Waker, channels_to,
-    own_channel,
+    Connections, Dialling, FarEnd, Grants, OwnChannel, PeerChannel, PeerChannels, Waker,
+    channels_to, own_channel,
 };
+use cc_flags::Flag;
 use cc_messages::Event;
-use cc_protocol::{Standings, Wishes, is_silent};
+use cc_node::Core;
+use cc_protocol::{Standings, Wishes, is_old_copy, is_silent};
 use cc_views::{NoMemory, NodeId};
 use cc_watch::{Board, Gauges};
 use crossbeam_channel::Receiver;
@@ -26,6 +29,9 @@ pub struct Shared {
     pub connections: Connections,
     pub channels: PeerChannels,
     pub own: OwnChannel,
+    /// How it greets its peers, and who is taken that greets it.
+    pub dialling: Dialling,
+    pub reception: Reception,
     /// What wakes the flusher.
     pub waker: Waker,
     /// The nodes that were heard of.
@@ -70,6 +76,7 @@ pub struct Inlets {
 #[derive(Drop)]
 struct Tables {
     connections: Connections,
+    reception: Reception,
     wishes: Wishes,
     standings: Standings,
     gauges: Gauges,
@@ -78,20 +85,25 @@ struct Tables {
 impl Tables {
     fn new(alloc: Global) -> Result<Self, NoMemory> {
         let connections = Connections::new(alloc)?;
-        let Ok(wishes) = Wishes::new(alloc) else {
+        let Ok(reception) = Reception::new(alloc) else {
             drop(connections);
             return Err(NoMemory);
         };
+        let Ok(wishes) = Wishes::new(alloc) else {
+            drop((connections, reception));
+            return Err(NoMemory);
+        };
         let Ok(standings) = Standings::new(alloc) else {
-            drop((connections, wishes));
+            drop((connections, reception, wishes));
             return Err(NoMemory);
         };
         let Ok(gauges) = Gauges::new(alloc) else {
-            drop((connections, wishes, standings));
+            drop((connections, reception, wishes, standings));
             return Err(NoMemory);
         };
         Ok(Tables {
             connections,
+            reception,
             wishes,
             standings,
             gauges,
@@ -175,6 +187,7 @@ impl Shared {
     fn of(alloc: Global, tables: Tables, ways: Ways, board: Option<Board>, now: u64) -> Self {
         let Tables {
             connections,
+            reception,
             wishes,
             standings,
             gauges,
@@ -190,6 +203,8 @@ impl Shared {
             connections,
             channels,
             own,
+            dialling: Dialling::new(),
+            reception,
             waker,
             known: Known::new(alloc),
             wishes: Mutex::new(wishes),
@@ -214,10 +229,11 @@ impl Shared {
     }
 
     /// A second has passed, and it is that moment: in milliseconds since 1970, and by the clock that never goes back.
-    pub fn tick(&self, now: u64, monotonic_now: u64) {
+    pub fn tick<R: Wait>(&self, rt: &R, now: u64, monotonic_now: u64) {
         self.now.store(now, Ordering::SeqCst);
         self.monotonic_now.store(monotonic_now, Ordering::SeqCst);
         self.seconds.fetch_add(1, Ordering::SeqCst);
+        self.dialling.settle(rt);
         self.ticked.set();
         self.waker.wake();
     }
@@ -225,6 +241,25 @@ impl Shared {
     /// How many seconds have passed since the start.
     pub fn seconds(&self) -> u64 {
         self.seconds.load(Ordering::SeqCst)
+    }
+
+    /// Whether the node ends by itself: a disk call failed, or its folder is an old copy.
+    pub fn has_ended(&self) -> bool {
+        self.ended.is_set() || self.dialling.old_copy().is_some()
+    }
+
+    /// What the node and its peers have of each other's posts, as the node's state has it: of a peer that it doesn't know, nothing.
+    pub fn learn_marks(&self, core: &Core) {
+        for number in 0..usize::MAX {
+            let Some(channel) = self.channels.get(number) else {
+                return;
+            };
+            let marks = channel.marks();
+            match core.links().get(channel.peer) {
+                Some(link) => marks.learn(core.posts().saturating_sub(link.start), link.heard),
+                None => marks.learn(0, 0),
+            }
+        }
     }
 
     /// Whether a peer is silent, as it was at the last tick.
@@ -265,6 +300,16 @@ impl Shared {
         }
         if self.any_absent.is_set() {
             self.standings.lock(rt).note_voice(peer);
+        }
+    }
+
+    /// An acknowledgement of that peer was refused, up to that number. Where it is of more than was posted to the peer, the peer is
+    /// greeted anew: the folder may be an old copy.
+    pub fn doubt_ack(&self, peer: NodeId, number: u64) {
+        if let Some(channel) = self.channel_to(peer) {
+            if is_old_copy(number, channel.marks().posted()) {
+                channel.suspect(self.seconds());
+            }
         }
     }
 

@@ -10,7 +10,7 @@ use cc_node::{Core, Node};
 use cc_protocol::AskName;
 use cc_site::Side;
 use cc_status::{BATCH_BOUNDS, Counted, DiskShown, PeerNote, Shown};
-use cc_views::{NoMemory, NodeId};
+use cc_views::{NoMemory, NodeId, Text};
 use cc_watch::Laid;
 use std::alloc::Global;
 use std::sync::Wait;
@@ -150,6 +150,10 @@ pub fn pass_second<R: Wait>(
         shared.notes.put(rt, Note::SlowSync(slowest));
     }
     note_strangers(rt, shared);
+    shared.learn_marks(node.core());
+    shared
+        .reception
+        .learn_left(rt, node.core().churn().changes().left());
     tally.pass_second(rt, node.core(), shared);
     show(rt, alloc, node, disk, tally, shared);
 }
@@ -210,7 +214,7 @@ fn peer_notes<R: Wait>(
 ) -> Result<Vec<PeerNote>, NoMemory> {
     let mut notes = Vec::new(alloc);
     for link in core.links().rows() {
-        notes.push(peer_note(rt, shared, core.me(), link))?;
+        notes.extend_from_slice(&[peer_note(rt, shared, core.me(), link)])?;
     }
     Ok(notes)
 }
@@ -232,5 +236,15 @@ fn peer_note<R: Wait>(rt: &R, shared: &Shared, me: NodeId, link: &LinkRow) -> Pe
             .and_then(PeerChannel::last_heard)
             .map(|heard| shared.since_1970(heard)),
         is_silent: link.peer != me && shared.is_silent(rt, link.peer),
+        trouble: trouble_with(rt, channel),
     }
+}
+
+// Why the node and a peer don't take each other, in words. No byte where they do.
+fn trouble_with<R: Wait>(rt: &R, channel: Option<&PeerChannel>) -> Text {
+    let words = match channel {
+        Some(channel) => channel.trouble(rt).unwrap_or(""),
+        None => "",
+    };
+    Text::new(words.as_bytes()).unwrap_or(Text::empty())
 }

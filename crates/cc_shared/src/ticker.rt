@@ -2,7 +2,8 @@
 
 use crate::listeners::{Listeners, knock};
 use crate::shared::Shared;
-use cc_channels::{Admission, Flushed, Stop, millis, monotonic_millis};
+use cc_channels::{Admission, Flushed, millis, monotonic_millis};
+use cc_flags::Stop;
 use std::net::{Net, TcpStream};
 use std::sync::Wait;
 use std::thread;
@@ -22,7 +23,7 @@ pub fn tick_until<R: Wait + Clock + Net<Stream = TcpStream>, F: Flushed>(
 ) {
     for _ in rt.forever() {
         thread::sleep(rt, Duration::from_millis(TICK_MS));
-        shared.tick(millis(rt), monotonic_millis(rt));
+        shared.tick(rt, millis(rt), monotonic_millis(rt));
         admission.tick(rt);
         if shared.done.is_set() {
             if let Some(pages) = &listeners.pages {
@@ -30,7 +31,7 @@ pub fn tick_until<R: Wait + Clock + Net<Stream = TcpStream>, F: Flushed>(
             }
             return;
         }
-        if stop.is_set() || shared.ended.is_set() {
+        if stop.is_set() || shared.has_ended() {
             knock(rt, &listeners.node);
             if let Some(clients) = &listeners.clients {
                 knock(rt, clients);

@@ -2,8 +2,7 @@
 
 use crate::listeners::Port;
 use crate::shared::Shared;
-use crate::timed_input::Patience;
-use cc_channels::{Connection, write_frames};
+use cc_channels::{Connection, Patience, write_frames};
 use cc_protocol::{Access, Admitted, Origin};
 use crossbeam_channel::{Receiver, bounded};
 use std::alloc::Global;
@@ -23,6 +22,9 @@ const SILENCE_S: u64 = 3600;
 
 // How long a whole frame may take, in seconds.
 const FRAME_S: u64 = 60;
+
+// How long the first frame of a connection may take, in seconds: until then it isn't known who is there.
+const FIRST_FRAME_S: u64 = 5;
 
 // How long one that is kept for the operator may say nothing, and how long a frame may take there, in seconds.
 const OPERATOR_S: u64 = 5;
@@ -89,6 +91,7 @@ pub fn patience_of(admitted: Admitted) -> Patience {
     };
     Patience {
         silence: Duration::from_secs(silence),
+        first_frame: Duration::from_secs(FIRST_FRAME_S),
         frame: Duration::from_secs(frame),
     }
 }

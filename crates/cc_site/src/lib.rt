@@ -18,4 +18,4 @@ pub use gate::{CLOSED_GATE, OPEN_GATE};
 pub use image::Choice;
 pub use memory::MemorySite;
 pub use reading::{fill_buffer, length_of, read_into};
-pub use site::{Call, DeviceFault, Side, Site};
+pub use site::{Call, DeviceFault, STRIDE_LIMIT, Side, Site};

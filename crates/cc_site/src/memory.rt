@@ -188,6 +188,15 @@ impl Site for MemorySite {
     ghost use Rattle.cc_site.specs.Memory.{memory_state, memory_outputs, memory_lost, memory_calls, memory_fuse, memory_failures, memory_moment};
     ghost use Rattle.cc_site.specs.Memory.{memory_left_since, CountsCall, Keeps};
     ghost use Rattle.cc_site.specs.RecordLaws.{since_now, now_only, may_read_now};
+    ghost use Rattle.std.proofs.Common.{lit≤};
+
+    const STRIDE: u64 = 1;
+
+    ghost STRIDE = { 1 };
+
+    ghost has_stride = { lit≤ tt };
+
+    ghost bounds_stride = { lit≤ tt };
 
     ghost honest = { λ _. ⊤ };
 

@@ -82,6 +82,9 @@ impl fmt::Display for DeviceFault {
 
 impl Error for DeviceFault {}
 
+/// How many bytes a stride has at most.
+pub const STRIDE_LIMIT: u64 = 262_144;
+
 /// Two byte files and an outlet. Places and lengths are in bytes, from 0.
 ///
 /// Until a sync of a side succeeds, a crash may leave any bytes at the places of it that were written, and from the
@@ -92,6 +95,17 @@ impl Error for DeviceFault {}
 /// tells them. The three calls of the outlet can't fail: what it can't pass on is lost.
 pub trait Site {
     ghost use Rattle.cc_site.specs.declared.site.Side.{Side};
+    ghost use Rattle.cc_site.specs.declared.site.TheConstants.{STRIDE_LIMIT};
+
+    /// Who makes a side longer may write zeros behind that, up to the next multiple of so many bytes, so that later
+    /// writes overwrite what is there. 1 where a sync costs the same whether the side has grown or not: that is no zeros.
+    const STRIDE: u64;
+
+    ghost STRIDE: { ℕ };
+
+    ghost has_stride: { 1 ≤ STRIDE };
+
+    ghost bounds_stride: { STRIDE ≤ STRIDE_LIMIT };
 
     /// The files behave as the disk model says.
     ghost honest: { Self → Type 0 };

@@ -10,7 +10,7 @@ use crate::counts::Counted;
 use cc_addresses::Address;
 use cc_node::{Core, Node};
 use cc_site::Side;
-use cc_views::{NoMemory, NodeId};
+use cc_views::{NoMemory, NodeId, Text};
 use std::alloc::Global;
 
 /// A node as it was flushed at one moment: its core, how many posts it kept, and how many answers an operation needs that
@@ -62,6 +62,8 @@ pub struct PeerNote {
     pub last_heard: Option<u64>,
     /// Whether no open connection brings its frames, or none has come for three seconds.
     pub is_silent: bool,
+    /// Why the node and the peer don't take each other, in words behind the peer's name. No byte where they do.
+    pub trouble: Text,
 }
 
 impl PeerNote {

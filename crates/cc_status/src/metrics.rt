@@ -248,6 +248,7 @@ enum PeerGauge {
     Silent,
     Absent,
     Connected,
+    Refused,
 }
 
 impl PeerGauge {
@@ -257,6 +258,7 @@ impl PeerGauge {
             PeerGauge::Silent => "peer_silent",
             PeerGauge::Absent => "peer_absent",
             PeerGauge::Connected => "peer_connected",
+            PeerGauge::Refused => "peer_refused",
         }
     }
 
@@ -266,6 +268,7 @@ impl PeerGauge {
             PeerGauge::Silent => "Whether no frame of a peer has come for three seconds.",
             PeerGauge::Absent => "Whether a peer is taken for absent.",
             PeerGauge::Connected => "Whether the node is connected to a peer.",
+            PeerGauge::Refused => "Whether the node and a peer don't take each other.",
         }
     }
 
@@ -275,6 +278,7 @@ impl PeerGauge {
             PeerGauge::Silent => u64::from(peer.is_silent),
             PeerGauge::Absent => u64::from(peer.absent_since.is_some()),
             PeerGauge::Connected => u64::from(peer.connected_since.is_some()),
+            PeerGauge::Refused => u64::from(peer.trouble.is_some()),
         }
     }
 }
@@ -283,7 +287,8 @@ fn print_peers<W: fmt::Write>(f: &mut fmt::Formatter<W>, peers: &[PeerStatus]) -
     print_of_peers(f, PeerGauge::Behind, peers)?;
     print_of_peers(f, PeerGauge::Silent, peers)?;
     print_of_peers(f, PeerGauge::Absent, peers)?;
-    print_of_peers(f, PeerGauge::Connected, peers)
+    print_of_peers(f, PeerGauge::Connected, peers)?;
+    print_of_peers(f, PeerGauge::Refused, peers)
 }
 
 fn print_of_peers<W: fmt::Write>(

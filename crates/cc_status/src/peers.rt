@@ -6,7 +6,7 @@ use crate::wide::Wide;
 use cc_addresses::Address;
 use cc_links::LinkRow;
 use cc_node::Core;
-use cc_views::NoMemory;
+use cc_views::{NoMemory, Text};
 use std::alloc::Global;
 
 /// Adds each node to which there is a link and that hasn't left, but the node itself, by ascending number.
@@ -38,6 +38,7 @@ fn peer_status(
         connected_since: None,
         absent_since: None,
         is_silent: true,
+        trouble: None,
         behind: Wide(posts.saturating_sub(reach)),
         acknowledged: Wide(link.acked),
         heard: Wide(link.heard),
@@ -60,7 +61,16 @@ fn add_note(alloc: Global, note: &PeerNote, status: &mut PeerStatus) -> Result<(
     status.absent_since = note.absent_since;
     status.last_heard = note.last_heard;
     status.is_silent = note.is_silent;
+    if let Some(words) = words_of(&note.trouble) {
+        drop(status.trouble.replace(String::from_str(alloc, words)?));
+    }
     Ok(())
+}
+
+// The words of a trouble, if there is one.
+fn words_of(trouble: &Text) -> Option<&str> {
+    let words = str::from_utf8(trouble.as_bytes()).ok()?;
+    (!words.is_empty()).then_some(words)
 }
 
 fn address_text(alloc: Global, address: Address) -> Result<String, NoMemory> {

@@ -109,6 +109,8 @@ pub struct PeerStatus {
     pub absent_since: Option<u64>,
     /// Whether it is silent: no open connection brings its frames, or none has come for three seconds.
     pub is_silent: bool,
+    /// Why the node and the peer don't take each other, in words behind the peer's name. None where they do.
+    pub trouble: Option<String>,
     /// How many posts it hasn't acknowledged, up to which number it has, and the last one that came from it.
     pub behind: Wide,
     pub acknowledged: Wide,

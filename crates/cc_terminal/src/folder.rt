@@ -8,6 +8,7 @@ use cc_orders::FormatWords;
 use std::alloc::AllocError;
 use std::fs::{File, Files};
 use std::process::ExitCode;
+use std::random::RandomSource;
 use std::thread;
 use std::time::{Clock, Duration};
 
@@ -32,8 +33,9 @@ pub fn format(rt: &HostRuntime, folder: &str, words: &FormatWords<'_>) -> anyhow
 
 fn format_as(rt: &HostRuntime, folder: &str, order: &FormatOrder) -> anyhow::Result<ExitCode> {
     print_lost(rt, folder)?;
+    let birth = random_number(rt)?;
     let mut output = std::io::writer(rt);
-    let status = format_folder(rt, rt.alloc(), folder, order, &mut output)?;
+    let status = format_folder(rt, rt.alloc(), folder, order, birth, &mut output)?;
     if status == 0 {
         for warning in order.warnings() {
             print_warning(rt, warning)?;
@@ -42,6 +44,13 @@ fn format_as(rt: &HostRuntime, folder: &str, order: &FormatOrder) -> anyhow::Res
         print_bad_opening(rt, order)?;
     }
     Ok(ExitCode::from(status))
+}
+
+/// 64 random bits.
+pub fn random_number<R: RandomSource>(rt: &R) -> anyhow::Result<u64> {
+    let mut bytes = [0; 8];
+    rt.fill_bytes(&mut bytes)?;
+    Ok(u64::from_be_bytes(bytes))
 }
 
 fn print_warning<R: Eprint>(rt: &R, warning: Option<Warning>) -> anyhow::Result<()> {

@@ -12,7 +12,7 @@ mod playing;
 mod statuses;
 mod streams;
 
-pub use folder::{dump, format, print_lost, print_trouble, wait_for_folder};
+pub use folder::{dump, format, print_lost, print_trouble, random_number, wait_for_folder};
 pub use lines::Lines;
 pub use loading::load;
 pub use machinery::Machinery;

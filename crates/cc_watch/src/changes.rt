@@ -2,7 +2,7 @@
 
 use crate::board::Board;
 use crate::timed::write_within;
-use cc_channels::Flag;
+use cc_flags::Flag;
 use cc_http::{HEARTBEAT, Outcome, Page, answer_page, put_event};
 use cc_status::{RowStatus, rows_of};
 use cc_views::{NoMemory, View};

@@ -6,7 +6,7 @@ use crate::changes::send_changes;
 use crate::pages::put_page;
 use crate::timed::{read_within, write_within};
 use crate::visitors::Places;
-use cc_channels::Flag;
+use cc_flags::Flag;
 use cc_http::{Asked, MOST_HEAD, Page, answer_wrong, read_request};
 use cc_views::NoMemory;
 use std::alloc::Global;

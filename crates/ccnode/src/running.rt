@@ -1,23 +1,25 @@
 //! A node that runs.
 
 use cc_arguments::VERSION;
-use cc_channels::Stop;
 use cc_checkpoint::OpenFault;
-use cc_commands::node_in_folder;
+use cc_commands::{IdentityError, identity_of_folder, node_in_folder};
+use cc_flags::Stop;
 use cc_intake::NoHooks;
 use cc_orders::{RunOrder, RunWords, WordFault};
 use cc_server::{Config, RunFault, run_node};
 use cc_shared::ReadText;
 use cc_terminal::{
     BAD_COMMAND_LINE, FAULT, Machinery, print_lost, print_trouble, print_unreadable,
-    print_word_fault, wait_for_folder,
+    print_word_fault, random_number, wait_for_folder,
 };
 use cc_views::NodeId;
+use cc_words::Identity;
 use crossbeam_channel::bounded;
 use log::Log;
 use std::fs::{File, Files};
 use std::net::{Net, TcpListener, TcpStream};
 use std::process::ExitCode;
+use std::random::RandomSource;
 use std::sync::Wait;
 use std::thread::Threads;
 use std::time::{Clock, Duration};
@@ -31,7 +33,7 @@ pub fn run<R, N>(
     words: &RunWords<'_>,
 ) -> anyhow::Result<ExitCode>
 where
-    R: Files<File = File> + Machinery,
+    R: Files<File = File> + Machinery + RandomSource,
     N: Net<Listener = TcpListener, Stream = TcpStream>
         + Threads
         + Wait
@@ -83,7 +85,7 @@ fn run_as<R, N>(
     peers_file: Option<&str>,
 ) -> anyhow::Result<ExitCode>
 where
-    R: Files<File = File> + Machinery,
+    R: Files<File = File> + Machinery + RandomSource,
     N: Net<Listener = TcpListener, Stream = TcpStream>
         + Threads
         + Wait
@@ -110,7 +112,19 @@ where
         },
         None => None,
     };
-    let config = config_of(folder, order, own, peers_file);
+    let identity = match identity_of_folder(rt, rt.alloc(), folder) {
+        Ok(identity) => identity.unwrap_or(Identity::nameless()),
+        Err(why) => {
+            drop(order);
+            return print_identity_error(rt, folder, &why);
+        }
+    };
+    let Ok(run) = random_number(rt) else {
+        drop(order);
+        return print_no_random(rt);
+    };
+    let known = Known { identity, run };
+    let config = config_of(folder, order, own, known, peers_file);
     let outcome = run_node(machine, rt, rt.alloc(), &config, &Stop::new(), &NoHooks);
     drop(config);
     match outcome {
@@ -119,11 +133,20 @@ where
     }
 }
 
-// What a node is run with: what an order has of it, without that node among its peers.
+// What tells a node from others that runs.
+#[derive(Clone, Copy)]
+struct Known {
+    identity: Identity,
+    // 64 random bits.
+    run: u64,
+}
+
+// What a node is run with: what an order has of it, without the node itself among its peers.
 fn config_of<'a>(
     folder: &'a str,
     order: RunOrder,
     own: Option<NodeId>,
+    known: Known,
     peers_file: Option<&'a str>,
 ) -> Config<'a> {
     let mut order = order;
@@ -134,7 +157,7 @@ fn config_of<'a>(
         listen,
         listen_clients,
         remote_operators,
-        answers_to_all,
+        speech,
         peers,
         status,
         log: _,
@@ -144,12 +167,30 @@ fn config_of<'a>(
         listen,
         listen_clients,
         remote_operators,
-        answers_to_all,
+        identity: known.identity,
+        run: known.run,
+        speech,
         peers,
         peers_file,
         status,
         version: VERSION,
     }
+}
+
+// Prints why the file `identity` isn't taken.
+fn print_identity_error<R: Print + Eprint>(
+    rt: &R,
+    folder: &str,
+    why: &IdentityError,
+) -> anyhow::Result<ExitCode> {
+    println!(rt; "Identity")?;
+    eprintln!(rt; "ccnode: {folder}/{why}")?;
+    Ok(ExitCode::from(FAULT))
+}
+
+fn print_no_random<R: Eprint>(rt: &R) -> anyhow::Result<ExitCode> {
+    eprintln!(rt; "ccnode: the system gives no random bits")?;
+    Ok(ExitCode::from(FAULT))
 }
 
 // Prints why the node doesn't run, or has ended, and what to do about it. A node among its own peers is a fault of the command line.
@@ -161,6 +202,12 @@ where
         return print_word_fault(rt, WordFault::PeerItself);
     }
     print_in_time(rt, fault)?;
+    if let RunFault::OldCopy { .. } = fault {
+        eprintln!(rt;
+            "ccnode: {folder}: an old copy: a peer has heard more from this node than the folder has. Retire this id at every other node, and give the folder another one: never bring it back"
+        )?;
+        return Ok(ExitCode::from(BAD_COMMAND_LINE));
+    }
     if let RunFault::Open(opening) = fault {
         if opening == OpenFault::NotFormatted {
             eprintln!(rt; "ccnode: {folder}: not formatted: see ccnode format --help")?;

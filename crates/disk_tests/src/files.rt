@@ -153,18 +153,21 @@ fn is_refused<R: Abort + AllocGlobal + Files<File = File>>(
     }
 }
 
-// The site of a folder.
-fn site<R: Abort + AllocGlobal + Files<File = File>>(rt: &R, folder: &str) -> FileSite<NoOutlet> {
+/// The site of a folder.
+pub(crate) fn site<R: Abort + AllocGlobal + Files<File = File>>(
+    rt: &R,
+    folder: &str,
+) -> FileSite<NoOutlet> {
     FileSite::open(rt, rt.alloc(), folder, NoOutlet).expect(rt, "a site")
 }
 
-// A new folder.
-fn made<R: Abort + AllocGlobal + Files<File = File>>(rt: &R, folder: &str) {
+/// A new folder.
+pub(crate) fn made<R: Abort + AllocGlobal + Files<File = File>>(rt: &R, folder: &str) {
     let _ = fs::remove_dir_all(rt, folder);
     fs::create_dir(rt, folder).expect(rt, "a folder");
 }
 
-fn remove<R: Abort + AllocGlobal + Files<File = File>>(rt: &R, folder: &str) {
+pub(crate) fn remove<R: Abort + AllocGlobal + Files<File = File>>(rt: &R, folder: &str) {
     fs::remove_dir_all(rt, folder).expect(rt, "the folder is removed");
 }
 

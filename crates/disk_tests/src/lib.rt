@@ -18,4 +18,6 @@ mod shared_states;
 #[cfg(test)]
 mod states;
 #[cfg(test)]
+mod strides;
+#[cfg(test)]
 mod windows;

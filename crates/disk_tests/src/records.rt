@@ -17,8 +17,8 @@ use std::process::Abort;
 // The record of one Enter behind its open gate, and the next gate.
 const ENTERED: [u8; 12] = [0xA5, 0, 0, 0, 6, 1, 0, 0, 0, 1, 1, 0];
 
-// A node that hasn't entered.
-fn entrant<R: Abort + AllocGlobal>(rt: &R) -> Node {
+/// A node that hasn't entered.
+pub(crate) fn entrant<R: Abort + AllocGlobal>(rt: &R) -> Node {
     opened(rt, 4, &[], &[1])
 }
 
@@ -39,7 +39,7 @@ fn lands<S: Site>(journal: &mut Journal, site: &mut S, node: &mut Node, batch: &
     if length <= journal.place() || journal.place() >= 1 << 61 || batch.len() == 0 {
         return false;
     }
-    let Ok(flight) = journal.write(site, batch) else {
+    let Ok(flight) = journal.write(site, batch, length) else {
         return false;
     };
     let Ok(landed) = journal.append(site, flight) else {
@@ -49,8 +49,8 @@ fn lands<S: Site>(journal: &mut Journal, site: &mut S, node: &mut Node, batch: &
     batch.len() == 0
 }
 
-// The same of a batch of one event.
-fn takes<R: Abort + AllocGlobal, S: Site>(
+/// The same of a batch of one event.
+pub(crate) fn takes<R: Abort + AllocGlobal, S: Site>(
     rt: &R,
     journal: &mut Journal,
     site: &mut S,
@@ -67,18 +67,18 @@ fn takes<R: Abort + AllocGlobal, S: Site>(
 // The place of a journal, and how many records and events lead to it.
 type Counts = (u64, u64, u64);
 
-// What a scan finds: the side of the journal, those counts, and how many posts its node has made.
-type Found = (Side, Counts, u64);
+/// What a scan finds: the side of the journal, those counts, and how many posts its node has made.
+pub(crate) type Found = (Side, Counts, u64);
 
 fn found_in(scanned: &Scanned) -> Found {
     let counts = (scanned.journal.place(), scanned.records, scanned.events);
     (scanned.journal.side(), counts, scanned.node.core().posts())
 }
 
-// Whether a scan of a site comes to that.
-fn comes_to<R: Abort + AllocGlobal>(
+/// Whether a scan of a site comes to that.
+pub(crate) fn comes_to<R: Abort + AllocGlobal, S: Site>(
     rt: &R,
-    site: &mut MemorySite,
+    site: &mut S,
     wanted: Result<Found, ScanFault>,
 ) -> bool {
     let node = entrant(rt);

@@ -156,6 +156,15 @@ impl ForgetfulSite {
 
 impl Site for ForgetfulSite {
     ghost use Rattle.std.specs.Prelude.{[], false, None};
+    ghost use Rattle.std.proofs.Common.{lit≤};
+
+    const STRIDE: u64 = 1;
+
+    ghost STRIDE = { 1 };
+
+    ghost has_stride = { lit≤ tt };
+
+    ghost bounds_stride = { lit≤ tt };
 
     ghost honest = { λ _. ⊥ };
 

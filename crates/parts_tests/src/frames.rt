@@ -27,7 +27,7 @@ const REFUSED: [u8; 30] = [
 ];
 
 // The bytes of a frame, which is let go.
-fn frame_bytes<R: Abort + AllocGlobal>(rt: &R, frame: Frame) -> Vec<u8> {
+pub fn frame_bytes<R: Abort + AllocGlobal>(rt: &R, frame: Frame) -> Vec<u8> {
     let mut out = Vec::new(rt.alloc());
     let put = encode_frame(&frame, &mut out);
     drop(frame);
@@ -64,12 +64,12 @@ fn what_a_client_is_told_is_written(rt: HostRuntime) {
 }
 
 // The bytes of the frame that these bytes spell.
-fn frame_again<R: Abort + AllocGlobal>(rt: &R, bytes: &[u8]) -> Vec<u8> {
+pub fn frame_again<R: Abort + AllocGlobal>(rt: &R, bytes: &[u8]) -> Vec<u8> {
     let frame = decode_frame(rt.alloc(), bytes).expect(rt, "a frame");
     frame_bytes(rt, frame)
 }
 
-fn frame_fault(alloc: Global, bytes: &[u8]) -> Option<WireFault> {
+pub fn frame_fault(alloc: Global, bytes: &[u8]) -> Option<WireFault> {
     decode_frame(alloc, bytes).err()
 }
 

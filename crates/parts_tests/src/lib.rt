@@ -13,6 +13,8 @@ mod formats;
 #[cfg(test)]
 mod frames;
 #[cfg(test)]
+mod hellos;
+#[cfg(test)]
 mod http;
 #[cfg(test)]
 mod links;

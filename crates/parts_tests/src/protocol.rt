@@ -8,6 +8,8 @@ mod clients;
 mod connecting;
 mod duties;
 mod frames;
+mod greeting;
+mod identities;
 mod incoming;
 mod last_asks;
 mod objecting;

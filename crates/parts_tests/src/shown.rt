@@ -7,7 +7,7 @@ use cc_changes::Fraction;
 use cc_node::Opening;
 use cc_site::Side;
 use cc_status::{Counted, DiskShown, Live, PeerNote, Shown, Status, rows_of, status_of};
-use cc_views::{Row, View};
+use cc_views::{Row, Text, View};
 use std::process::Abort;
 
 // How a peer is.
@@ -48,6 +48,7 @@ fn note((peer, (is_silent, is_absent)): (u32, (bool, bool))) -> PeerNote {
         absent_since: if is_absent { Some(1) } else { None },
         last_heard: None,
         is_silent,
+        trouble: Text::empty(),
     }
 }
 

@@ -40,7 +40,7 @@ pub fn formatted<R: Abort + AllocGlobal + Files<File = File>>(
 ) -> (u8, String) {
     let order = FormatOrder::parse(rt.alloc(), words).expect(rt, "an order");
     let mut output = Vec::new(rt.alloc());
-    let ended = format_folder(rt, rt.alloc(), folder, &order, &mut output);
+    let ended = format_folder(rt, rt.alloc(), folder, &order, 42, &mut output);
     drop(order);
     let status = ended.expect(rt, "a status");
     (status, String::from_utf8(output).expect(rt, "a text"))

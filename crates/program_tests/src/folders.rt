@@ -177,6 +177,7 @@ fn member_of_two() -> FormatWords<'static> {
         beta: Some("1/2"),
         gamma: Some("2/3"),
         share: Some("32"),
+        cluster: None,
     }
 }
 

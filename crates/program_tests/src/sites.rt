@@ -21,6 +21,7 @@ const MEMBER: FormatWords<'_> = FormatWords {
     beta: None,
     gamma: None,
     share: None,
+    cluster: None,
 };
 
 fn order<R: Abort + AllocGlobal>(rt: &R) -> FormatOrder {

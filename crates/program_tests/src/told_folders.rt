@@ -1,8 +1,9 @@
 //! What is told of a folder beside what is printed: of its node, why it can't be opened, and of files that were lost.
 
 use crate::folder_calls::{dumped, entrant, formatted, hold, made, put_behind, remove};
+use crate::words::with;
 use cc_commands::{DumpScope, Lost, Trouble, Wrong, node_in_folder};
-use cc_orders::FormatWords;
+use cc_orders::{FormatWords, WordFault};
 use cc_views::NodeId;
 use std::fs;
 use std::fs::{File, Files};
@@ -16,6 +17,7 @@ fn member() -> FormatWords<'static> {
         beta: Some("2/3"),
         gamma: Some("4/5"),
         share: Some("32"),
+        cluster: None,
     }
 }
 
@@ -65,6 +67,57 @@ fn check_nodes<R: Abort + AllocGlobal + Files<File = File>>(rt: &R, folder: &str
 #[test]
 fn a_folder_tells_of_its_node(rt: HostRuntime) {
     check_nodes(&rt, "told_folder");
+}
+
+const NAMED: &str = "named_folder";
+
+const IDENTITY: &str = "named_folder/identity";
+
+// What such a file in a folder is told as behind its node.
+const IDENTITIES: [(&str, &str); 4] = [
+    ("cluster blue\nbirth 7\n", "cluster blue\nbirth 7\n"),
+    (
+        "cluster \nbirth 7\n",
+        "fault identity line 1 isn't a cluster's name, such as cluster blue\n",
+    ),
+    (
+        "cluster blue\nbirth x\n",
+        "fault identity line 2 isn't a number, such as birth 42\n",
+    ),
+    (
+        "cluster blue\nbirth 7\nmore",
+        "fault identity line 3 isn't the end\n",
+    ),
+];
+
+fn ends_in<R: Abort + AllocGlobal + Files<File = File>>(rt: &R, wanted: &str) -> bool {
+    let (_, told) = dumped(rt, NAMED, DumpScope::Node);
+    let ends = told.as_str().ends_with(wanted);
+    drop(told);
+    ends
+}
+
+// The folder has the name that it was formatted with, and is told by the text that stands there.
+fn check_identities<R: Abort + AllocGlobal + Files<File = File>>(rt: &R) {
+    format(rt, NAMED, &with(&member(), WordFault::Cluster, "blue"));
+    let text = fs::read_to_string(rt, IDENTITY).expect(rt, "a text");
+    let is_named = text.as_str() == "cluster blue\nbirth 42\n";
+    drop(text);
+    assert!(rt; is_named);
+    for (text, wanted) in IDENTITIES {
+        fs::write(rt, IDENTITY, text).expect(rt, "the file is written");
+        assert!(rt; ends_in(rt, wanted), "{wanted}");
+    }
+    let (_, told) = dumped(rt, NAMED, DumpScope::Sides);
+    let has_sides_alone = !told.as_str().contains("identity");
+    drop(told);
+    assert!(rt; has_sides_alone);
+    remove(rt, NAMED);
+}
+
+#[test]
+fn a_folder_has_the_name_of_its_cluster(rt: HostRuntime) {
+    check_identities(&rt);
 }
 
 // The record of one Enter.

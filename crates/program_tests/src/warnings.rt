@@ -21,6 +21,7 @@ fn is_warned<'a, R: Abort + AllocGlobal>(
         beta,
         gamma: None,
         share: None,
+        cluster: None,
     };
     let order = FormatOrder::parse(rt.alloc(), &words).expect(rt, "an order");
     let warnings = order.warnings();

@@ -9,7 +9,7 @@ use cc_orders::{
     RunOrder, RunWords, ShareOrder, StatusOrder, WordFault,
 };
 use cc_views::NodeId;
-use cc_words::{fraction, list, number, small_number};
+use cc_words::{Speech, fraction, list, number, small_number};
 use std::net::{IpAddr, Ipv4Addr};
 use std::process::Abort;
 
@@ -96,7 +96,7 @@ fn alone() -> RunWords<'static> {
         listen: "127.0.0.1:7001",
         listen_clients: None,
         operators: None,
-        answers: None,
+        speaks: None,
         peers: None,
         peers_file: None,
         status: None,
@@ -111,7 +111,7 @@ fn run_with<'a>(words: &RunWords<'a>, place: WordFault, text: &'a str) -> RunWor
         WordFault::Listen => words.listen = text,
         WordFault::ListenClients => words.listen_clients = Some(text),
         WordFault::Operators => words.operators = Some(text),
-        WordFault::Answers => words.answers = Some(text),
+        WordFault::Speaks => words.speaks = Some(text),
         WordFault::Peers | WordFault::PeerTwice => words.peers = Some(text),
         WordFault::Status => words.status = Some(text),
         _ => words.log = Some(text),
@@ -253,6 +253,21 @@ fn guarded() -> RunWords<'static> {
     run_with(&words, WordFault::Operators, "off")
 }
 
+// Whether a node speaks so.
+fn speaks<R: Abort + AllocGlobal>(rt: &R, words: &RunWords<'_>, speech: Speech) -> bool {
+    let order = RunOrder::parse(rt.alloc(), words, None).expect(rt, "an order");
+    let told = order.speech;
+    drop(order);
+    told == speech
+}
+
+#[test]
+fn run_speaks_as_this_program_or_an_older_one(rt: HostRuntime) {
+    assert!(rt; speaks(&rt, &alone(), Speech::Now));
+    assert!(rt; speaks(&rt, &alone_with(WordFault::Speaks, "now"), Speech::Now));
+    assert!(rt; speaks(&rt, &alone_with(WordFault::Speaks, "0.1"), Speech::Before));
+}
+
 #[test]
 fn run_takes_all_from_all_by_itself(rt: HostRuntime) {
     assert!(rt; guards(&rt, &alone(), None, true));
@@ -262,10 +277,11 @@ fn run_takes_all_from_all_by_itself(rt: HostRuntime) {
 }
 
 // A word that a node can't run by, and the fault that names its place.
-const NO_RUNS: [(WordFault, &str); 7] = [
+const NO_RUNS: [(WordFault, &str); 8] = [
     (WordFault::Listen, "7001"),
     (WordFault::ListenClients, "7501"),
     (WordFault::Operators, "On"),
+    (WordFault::Speaks, "0.2"),
     (WordFault::Peers, ""),
     (WordFault::PeerTwice, "2=127.0.0.1:7002,2=127.0.0.1:7003"),
     (WordFault::Status, "8001"),
@@ -562,6 +578,7 @@ pub fn format_of(id: &str) -> FormatWords<'_> {
         beta: None,
         gamma: None,
         share: None,
+        cluster: None,
     }
 }
 
@@ -591,20 +608,27 @@ pub fn with<'a>(words: &FormatWords<'a>, place: WordFault, text: &'a str) -> For
         WordFault::Contacts => words.contacts = Some(text),
         WordFault::Beta => words.beta = Some(text),
         WordFault::Gamma => words.gamma = Some(text),
+        WordFault::Cluster => words.cluster = Some(text),
         _ => words.share = Some(text),
     }
     words
 }
 
 // A bad text, and the fault that names its place.
-const NO_FORMATS: [(WordFault, &str); 6] = [
+const NO_FORMATS: [(WordFault, &str); 9] = [
     (WordFault::Id, "04"),
     (WordFault::Initial, "4,"),
     (WordFault::Contacts, ""),
     (WordFault::Beta, "4"),
     (WordFault::Gamma, "4/-5"),
     (WordFault::Share, "032"),
+    (WordFault::Cluster, ""),
+    (WordFault::Cluster, "a b"),
+    (WordFault::Cluster, LONG_NAME),
 ];
+
+// 65 letters.
+const LONG_NAME: &str = "aaaaaaaaaaaaaaaaaaaaaaaaaaaaaaaaaaaaaaaaaaaaaaaaaaaaaaaaaaaaaaaaa";
 
 #[test]
 fn each_word_of_format_is_checked(rt: HostRuntime) {

@@ -4,7 +4,7 @@ use crate::asking::{DONE, check_asked, is_asked, is_retired, order, retirement};
 use crate::nodes::{
     Place, Places, format_member_of, free_place, run, set_up_of, while_one_runs, while_two_run,
 };
-use cc_channels::Stop;
+use cc_flags::Stop;
 use cc_intake::NoHooks;
 use std::alloc::Global;
 use std::net::{Net, SocketAddr, TcpListener, TcpStream};

@@ -2,8 +2,8 @@
 
 use crate::nodes::{Places, free_address, run, set_up, while_two_run};
 use cc_addresses::Address;
-use cc_channels::Stop;
 use cc_client::{Silence, Told, ask_node, leave_node, retire_node, share_node};
+use cc_flags::Stop;
 use cc_intake::NoHooks;
 use cc_messages::Share;
 use cc_orders::{AnswerForm, AskOrder, LeaveOrder, RetireOrder, ShareOrder};

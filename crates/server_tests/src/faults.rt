@@ -1,8 +1,8 @@
 //! Why a node doesn't run: each fault, and its text.
 
 use crate::nodes::{Setting, config_of, format_member, free_address, free_place};
-use cc_channels::Stop;
 use cc_checkpoint::OpenFault;
+use cc_flags::Stop;
 use cc_flush::Failed;
 use cc_intake::NoHooks;
 use cc_server::{RunFault, run_node};

@@ -1,7 +1,7 @@
 //! The file of the peers, which changes while a node runs.
 
 use crate::nodes::{Place, Setting, format_member, free_place, run_with, while_one_runs};
-use cc_channels::Stop;
+use cc_flags::Stop;
 use cc_intake::NoHooks;
 use std::fs;
 use std::fs::{File, Files};

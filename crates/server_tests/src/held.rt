@@ -3,7 +3,7 @@
 use crate::clients::{FIRST_ASK, FIRST_REPLY, OTHER_ASK, OTHER_REPLY, connected, reads};
 use crate::holding::Hold;
 use crate::nodes::{Places, run, set_up, while_two_run};
-use cc_channels::Stop;
+use cc_flags::Stop;
 use cc_intake::NoHooks;
 use std::io::Write;
 use std::net::{Net, SocketAddr, TcpStream};

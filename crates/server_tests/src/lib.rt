@@ -12,6 +12,8 @@ mod faults;
 #[cfg(test)]
 mod following;
 #[cfg(test)]
+mod greetings;
+#[cfg(test)]
 mod held;
 #[cfg(test)]
 mod holding;

@@ -2,7 +2,7 @@
 
 use crate::asking::DONE;
 use crate::nodes::{Places, run, set_up, while_two_run};
-use cc_channels::Stop;
+use cc_flags::Stop;
 use cc_intake::NoHooks;
 use cc_load::load_nodes;
 use cc_orders::{AnswerForm, LoadOrder, LoadWords};

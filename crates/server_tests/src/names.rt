@@ -3,13 +3,13 @@
 use crate::asking::{DONE, is_asked};
 use crate::nodes::{Places, free_place, set_up, while_two_run};
 use cc_addresses::{Address, Host, HostName, Peer};
-use cc_channels::Stop;
+use cc_flags::Stop;
 use cc_intake::{Finished, NoHooks};
 use cc_orders::AskOrder;
 use cc_server::{Config, RunFault, run_on};
 use cc_shared::ReadText;
 use cc_views::NodeId;
-use cc_words::command;
+use cc_words::{Identity, Speech, command};
 use log::Log;
 use std::alloc::{AllocError, Global};
 use std::fs::{File, Files};
@@ -48,7 +48,9 @@ fn config_of<'a>(
         listen,
         listen_clients: None,
         remote_operators: true,
-        answers_to_all: false,
+        identity: Identity::nameless(),
+        run: 1,
+        speech: Speech::Now,
         peers,
         peers_file: None,
         status: None,

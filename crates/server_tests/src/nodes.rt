@@ -1,13 +1,14 @@
 //! Nodes on loopback.
 
 use cc_addresses::{Address, Peer};
-use cc_channels::Stop;
 use cc_commands::{FormatOrder, format_folder};
+use cc_flags::Stop;
 use cc_intake::{Finished, Hooks};
 use cc_orders::FormatWords;
 use cc_server::{Config, RunFault, run_on};
 use cc_shared::ReadText;
 use cc_views::NodeId;
+use cc_words::{Identity, Speech};
 use log::Log;
 use std::alloc::{AllocError, Global};
 use std::fs::{File, Files};
@@ -117,6 +118,7 @@ pub(crate) fn format_with_share<'w, R: Abort + AllocGlobal + Files<File = File>>
         beta,
         gamma: None,
         share,
+        cluster: None,
     };
     let _ = fs::remove_dir_all(rt, folder);
     fs::create_dir(rt, folder).expect(rt, "a folder");
@@ -135,7 +137,7 @@ fn is_formatted<R: Files<File = File>>(
     order: &FormatOrder,
 ) -> bool {
     let mut output = Vec::new(alloc);
-    let ended = format_folder(rt, alloc, folder, order, &mut output);
+    let ended = format_folder(rt, alloc, folder, order, 0, &mut output);
     matches!(ended, Ok(0))
 }
 
@@ -149,6 +151,7 @@ pub(crate) struct Setting<'a> {
     pub peers_file: Option<&'a str>,
     pub listen_clients: Option<SocketAddr>,
     pub remote_operators: bool,
+    pub identity: Identity,
     pub status: Option<SocketAddr>,
 }
 
@@ -162,6 +165,7 @@ impl<'a> Setting<'a> {
             peers_file: None,
             listen_clients: None,
             remote_operators: true,
+            identity: Identity::nameless(),
             status: None,
         }
     }
@@ -177,7 +181,9 @@ pub(crate) fn config_of<'a>(
         listen: Address::from(setting.listen),
         listen_clients: setting.listen_clients.map(Address::from),
         remote_operators: setting.remote_operators,
-        answers_to_all: false,
+        identity: setting.identity,
+        run: 1,
+        speech: Speech::Now,
         peers: peers_of(alloc, setting.peers)?,
         peers_file: setting.peers_file,
         status: setting.status.map(Address::from),

@@ -4,7 +4,7 @@ use crate::asking::check_asked;
 use crate::nodes::{
     Place, Setting, format_member_of, free_address, free_place, run_with, while_one_runs,
 };
-use cc_channels::Stop;
+use cc_flags::Stop;
 use cc_intake::NoHooks;
 use serde_json::Value;
 use std::io::{Read, Write};

@@ -4,7 +4,7 @@ use crate::clients::{FIRST_ASK, FIRST_REPLY, OTHER_ASK, OTHER_REPLY, check_close
 use crate::nodes::{
     Place, Setting, format_member_of, free_address, free_place, run_with, while_one_runs,
 };
-use cc_channels::Stop;
+use cc_flags::Stop;
 use cc_intake::NoHooks;
 use std::net::{Net, SocketAddr, TcpStream};
 use std::process::Abort;

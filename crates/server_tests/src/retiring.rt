@@ -2,7 +2,7 @@
 
 use crate::clients::{THIRD_ASK, connected, exchange, reads};
 use crate::nodes::{Places, run, set_up, while_two_run};
-use cc_channels::Stop;
+use cc_flags::Stop;
 use cc_intake::{Hooks, NoHooks};
 use std::io::Write;
 use std::net::{Net, SocketAddr, TcpStream};

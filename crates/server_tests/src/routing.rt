@@ -3,7 +3,7 @@
 use crate::clients::{FIRST_ASK, FIRST_REPLY, connected, ends, reads};
 use crate::hostile::OUT_OF_TURN;
 use crate::nodes::{Places, run, set_up, while_two_run};
-use cc_channels::Stop;
+use cc_flags::Stop;
 use cc_intake::NoHooks;
 use std::io::{Read, Write};
 use std::net::{Net, Shutdown, SocketAddr, TcpStream};

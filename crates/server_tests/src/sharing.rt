@@ -2,7 +2,7 @@
 
 use crate::clients::{FIRST_ASK, FIRST_REPLY, ends, reads, sent};
 use crate::nodes::{Place, Setting, format_with_share, free_place, run_with, while_one_runs};
-use cc_channels::Stop;
+use cc_flags::Stop;
 use cc_intake::NoHooks;
 use std::net::{Net, Shutdown, SocketAddr, TcpStream};
 use std::process::Abort;

@@ -2,8 +2,10 @@
 //! anew before anything else.
 
 use crate::clients::sent;
+use crate::greetings::greeted;
 use crate::nodes::{Place, format_member_of, free_place, run, while_one_runs};
-use cc_channels::{Stop, monotonic_millis};
+use cc_channels::monotonic_millis;
+use cc_flags::Stop;
 use cc_intake::NoHooks;
 use std::io::Read;
 use std::net::{Net, SocketAddr, TcpStream};
@@ -63,8 +65,8 @@ fn ask_as_2<R: Abort + Net<Stream = TcpStream>>(
     second: &Place,
     third: &Place,
 ) {
-    let (mut to_2, _) = second.listener.accept().expect(rt, "a connection");
-    let (mut to_3, _) = third.listener.accept().expect(rt, "a connection");
+    let mut to_2 = greeted(rt, second);
+    let mut to_3 = greeted(rt, third);
     let _from_2 = sent(rt, node, &QUERY_OF_2);
     assert!(rt; next_post(rt, &mut to_2).starts_with(&REPLY));
     assert!(rt; next_post(rt, &mut to_3).starts_with(&SKIP));
@@ -87,7 +89,7 @@ fn hear_anew<R: Abort + Clock + Net<Stream = TcpStream>>(rt: &R, second: &Place,
 
 // What a peer hears first over its next connection, which it ends then.
 fn hear_first<R: Abort + Net<Stream = TcpStream>>(rt: &R, peer: &Place, frame: &[u8]) {
-    let (mut from_node, _) = peer.listener.accept().expect(rt, "a connection");
+    let mut from_node = greeted(rt, peer);
     assert!(rt; next_frame(rt, &mut from_node).starts_with(frame));
 }
 

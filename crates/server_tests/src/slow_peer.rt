@@ -3,10 +3,13 @@
 
 use crate::nodes::{Place, free_place};
 use cc_addresses::{Address, Peer};
-use cc_channels::{Flag, PeerChannels, Waker, channels_to, write_peer};
+use cc_channels::{Dialling, FarEnd, PeerChannels, Waker, channels_to};
+use cc_dialling::{Dialler, dial_peer};
+use cc_flags::Flag;
 use cc_protocol::Parcel;
 use cc_views::NodeId;
 use crossbeam_utils::sync::Parker;
+use log::Log;
 use std::alloc::Global;
 use std::io::Read;
 use std::net::{Net, TcpListener, TcpStream};
@@ -95,6 +98,26 @@ fn read_late<R: Abort + Wait + Clock + Net<Listener = TcpListener, Stream = TcpS
     read_all(rt, &mut stream);
 }
 
+// Dials the peer at the far end as the node `me`, until the flag is set.
+fn dial<R: Wait + Clock + Log + Net<Stream = TcpStream>>(
+    rt: &R,
+    alloc: Global,
+    me: NodeId,
+    dialling: &Dialling,
+    waker: &Waker,
+    over: &Flag,
+    end: FarEnd,
+) {
+    let dialler = Dialler {
+        alloc,
+        me,
+        dialling,
+        waker,
+        over,
+    };
+    dial_peer(rt, &dialler, end);
+}
+
 #[test]
 fn a_peer_that_reads_late_gets_all_in_order(rt: HostRuntime) {
     let alloc = rt.alloc();
@@ -109,14 +132,15 @@ fn a_peer_that_reads_late_gets_all_in_order(rt: HostRuntime) {
     let parker = Parker::new(alloc).expect(&rt, "room");
     let waker = Waker::new(parker.unparker().clone().expect(&rt, "room"));
     let over = Flag::new();
+    let dialling = Dialling::new();
     let me = node(&rt, 1);
     thread::join(
         &rt,
-        || write_peer(&rt, alloc, me, end, &waker, &over),
+        || dial(&rt, alloc, me, &dialling, &waker, &over, end),
         || {
             read_late(&rt, alloc, &channels, &listener);
             over.set();
         },
     );
-    drop((channels, waker, parker, listener));
+    drop((channels, waker, parker, listener, dialling));
 }

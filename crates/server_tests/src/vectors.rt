@@ -5,7 +5,7 @@ use crate::clients::{
 };
 use crate::hostile::attack;
 use crate::nodes::{Places, run, set_up, while_two_run};
-use cc_channels::Stop;
+use cc_flags::Stop;
 use cc_intake::NoHooks;
 use std::net::{Net, SocketAddr, TcpStream};
 use std::process::Abort;

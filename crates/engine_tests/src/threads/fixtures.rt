@@ -15,7 +15,7 @@ use std::process::Abort;
 use std::sync::{Mutex, Wait};
 
 /// A disk in memory, with hooks round each sync.
-pub(crate) type Disk<'a> = Hooked<'a, MemorySite, Hold>;
+pub(crate) type Disk<'a> = Hooked<MemorySite, &'a Hold>;
 
 pub(crate) fn id(number: u32) -> NodeId
     requires { 0 < number }

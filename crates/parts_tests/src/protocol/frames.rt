@@ -1,8 +1,9 @@
 //! Which event a frame is, and which frames a node sends.
 
+use crate::hellos::hello;
 use crate::protocol::bytes::{ASK, SKIPPED, STORED, is_spelled};
 use crate::sets::id;
-use cc_frames::{Frame, decode_frame};
+use cc_frames::{Frame, Reason, decode_frame};
 use cc_messages::{Answer, Command, Event, Message, PostRange, Refusal, Share};
 use cc_protocol::{
     Bundle, Due, Objection, Outcome, Parcel, ack_frame, due_bytes, event_of, objection_frame,
@@ -110,6 +111,20 @@ fn what_a_peer_sends_is_an_event(rt: HostRuntime) {
 fn what_a_node_sends_to_clients_is_none(rt: HostRuntime) {
     let about = [about_bytes(&rt, &STORED), about_bytes(&rt, &SKIPPED)];
     assert!(rt; about == [About::Nothing; 2]);
+}
+
+#[test]
+fn a_greeting_is_none(rt: HostRuntime) {
+    let reason = Reason::HasLeft;
+    let about = [
+        about_frame(Frame::Hello(hello(&rt, b"blue", 17, 34))),
+        about_frame(Frame::Welcome { heard: 5 }),
+        about_frame(Frame::Unwelcome {
+            reason,
+            node: id(2),
+        }),
+    ];
+    assert!(rt; about == [About::Nothing; 3]);
 }
 
 // The acknowledgement of a store with tag 1, as post 2 of node 1.

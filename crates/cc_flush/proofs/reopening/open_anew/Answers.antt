@@ -1,4 +1,4 @@
-use Rattle.std.proofs.Common.{◌∙◌, sym, subst}
+use Rattle.std.proofs.Common.{sym, subst}
 use Rattle.cc_flush.proofs.ArmingAgain.{opened_stays, moved_found, moved_stays}
 use Rattle.cc_flush.proofs.Reopened.{anew_after}
 use Rattle.cc_flush.specs.Reopening.{StaysDurable}

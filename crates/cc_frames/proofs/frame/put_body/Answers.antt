@@ -45,3 +45,21 @@ returns-in_ok-put_u8-in-Share-clause-writes c =
     subst (λ (f : Frame). Writes c.args.out.now c.put_share.new.out (body_spelling f) c.put_share.result) (sym c.in-Share.is)
     (writes_then c.args.out.now c.put_u8-in-Share.new.out c.put_share.new.out (37 ∷ []) _ c.put_share.result c.in_ok-put_u8-in-Share.ensures
     c.put_share.ensures.writes)
+
+pub returns-in_ok-put_u8-in-Hello-clause-writes : goal.returns-in_ok-put_u8-in-Hello-clause-writes
+returns-in_ok-put_u8-in-Hello-clause-writes c =
+    subst (λ (f : Frame). Writes c.args.out.now c.put_hello.new.out (body_spelling f) c.put_hello.result) (sym c.in-Hello.is)
+    (writes_then c.args.out.now c.put_u8-in-Hello.new.out c.put_hello.new.out (33 ∷ []) _ c.put_hello.result c.in_ok-put_u8-in-Hello.ensures
+    c.put_hello.ensures.writes)
+
+pub returns-in_ok-put_u8-in-Welcome-clause-writes : goal.returns-in_ok-put_u8-in-Welcome-clause-writes
+returns-in_ok-put_u8-in-Welcome-clause-writes c =
+    subst (λ (f : Frame). Writes c.args.out.now c.put_u64.new.out (body_spelling f) c.put_u64.result) (sym c.in-Welcome.is)
+    (writes_then c.args.out.now c.put_u8-in-Welcome.new.out c.put_u64.new.out (34 ∷ []) _ c.put_u64.result c.in_ok-put_u8-in-Welcome.ensures
+    c.put_u64.ensures)
+
+pub returns-in_ok-put_u8-in-Unwelcome-clause-writes : goal.returns-in_ok-put_u8-in-Unwelcome-clause-writes
+returns-in_ok-put_u8-in-Unwelcome-clause-writes c =
+    subst (λ (f : Frame). Writes c.args.out.now c.put_unwelcome.new.out (body_spelling f) c.put_unwelcome.result) (sym c.in-Unwelcome.is)
+    (writes_then c.args.out.now c.put_u8-in-Unwelcome.new.out c.put_unwelcome.new.out (35 ∷ []) _ c.put_unwelcome.result
+    c.in_ok-put_u8-in-Unwelcome.ensures c.put_unwelcome.ensures.writes)

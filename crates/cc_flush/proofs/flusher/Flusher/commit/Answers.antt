@@ -1,14 +1,21 @@
-use Rattle.std.proofs.Common.{◌≡◌, ◌≤◌, ◌+◌, ◌++◌, length, refl, sym, ◌∙◌, ap, subst, arith}
+use Rattle.std.proofs.Common.{◌≡◌, ℕ, ◌≤◌, ◌+◌, ◌++◌, max, length, refl, sym, ◌∙◌, ap, subst, arith}
 use Rattle.std.specs.Prelude.{false, None}
 use Rattle.cc_site.specs.declared.site.Side.{Side}
 use Rattle.cc_site.specs.Sides.{other}
-use Rattle.cc_journal.specs.Batches.{AreLawful, events_in}
+use Rattle.cc_journal.specs.Batches.{AreLawful, events_in, batch_bytes}
+use Rattle.cc_journal.specs.Journals.{end_ahead, zeros_ahead}
 use Rattle.cc_flush.specs.Engine.{IsSettled}
 use Rattle.cc_flush.proofs.Keeping.{good_now, ready, committed_stands, BatchMoments, batch_moments}
+use Rattle.cc_flush.proofs.Lengths.{end_within}
 use Rattle.cc_flush.proofs.flusher.Flusher.commit.Goals as goal
 
 pub overflow_add-place : goal.overflow_add-place
 overflow_add-place g c =
+    let used = ap (λ e. e.used) c.self.view_is in
+    omega (arith, c.place.ensures, ap (λ p. p.place) c.in-Ok.ensures.ok, c.in-Ok.ensures.short, c.self.invariant.reaches, used, c.requires.room)
+
+pub length_after-self-inside-requires : goal.length_after-self-inside-requires
+length_after-self-inside-requires g c =
     let used = ap (λ e. e.used) c.self.view_is in
     omega (arith, c.place.ensures, ap (λ p. p.place) c.in-Ok.ensures.ok, c.in-Ok.ensures.short, c.self.invariant.reaches, used, c.requires.room)
 
@@ -50,13 +57,21 @@ invariant_of-self g c =
     let back = c.make_durable.ensures.honest.1 in
     let owed = c.of.ensures ∙ c.in-Ok.ensures.landed in
     let lawful = subst (λ e. AreLawful e.twin batch) view c.requires.lawful in
+    let used = c.self.inside.used in
+    let was_at = c.self.inside.journal.place in
+    let end = was_at + 1 + length (batch_bytes batch) in
+    let ends : c.place.result + 1 ≡ end = omega (arith, place, c.place.ensures) in
+    let zeros = zeros_ahead s.STRIDE used end in
+    let length_is : c.length_after-self-inside.result ≡ max used (end_ahead s.STRIDE used end) =
+    c.length_after-self-inside.ensures.length ∙ ap (λ (n : ℕ). max used (end_ahead s.STRIDE used n)) ends in
     record {
-      reaches = omega (arith, c.max-self-inside.ensures, c.place.ensures);
+      reaches = end_within used end zeros c.length_after-self-inside.result at.place (omega (arith, place)) length_is;
       within = λ h none.
-          subst (λ (t : Side). at.place + 1 ≤ length (s.state new t).bytes) (sym side) (omega (arith, place, c.in-Ok.ensures.length (back h)));
+          subst (λ (t : Side). at.place + 1 ≤ length (s.state new t).bytes) (sym side)
+          (end_within _ end zeros _ (at.place + 1) (omega (arith, place)) (c.in-Ok.ensures.length (back h)));
       is_length = λ h none.
-          subst (λ (t : Side). c.max-self-inside.result ≡ length (s.state new t).bytes) (sym side)
-          (omega (arith, place, c.max-self-inside.ensures, c.place.ensures, c.in-Ok.ensures.length (back h), was.is_length (back h) none));
+          subst (λ (t : Side). c.length_after-self-inside.result ≡ length (s.state new t).bytes) (sym side)
+          (length_is ∙ ap (λ (n : ℕ). max n (end_ahead s.STRIDE used end)) (was.is_length (back h) none) ∙ sym (c.in-Ok.ensures.length (back h)));
       goes_on = λ _. subst (λ e. e.failed ≡ None) view c.in_ok-check.ensures.goes_on;
       idle = λ is. absurd cc;
       lawful = rw owed lawful;

@@ -1,10 +1,27 @@
-use Rattle.std.proofs.Common.{◌+◌, ◌≤◌, length, sym, subst}
+use Rattle.std.proofs.Common.{◌+◌, ◌≤◌, length, sym, subst, ap, arith}
 use Rattle.cc_journal.specs.Batches.{events_in}
 use Rattle.cc_journal.specs.contracts.journal.Journal.{the_view}
+use Rattle.cc_journal.proofs.Records.{length_batch}
 use Rattle.cc_journal.proofs.Steps.{StaysAtRest, behind_gate}
 use Rattle.cc_journal.proofs.journal.Journal.write.Given.{Over}
 use Rattle.cc_journal.proofs.journal.Journal.write.Goals as goal
 use Rattle.cc_journal.proofs.journal.Journal.write.Goals.{After-write_at}
+
+pub put_zeros-requires : goal.put_zeros-requires
+put_zeros-requires g c =
+    let stride : g.S.Site.STRIDE ≤ 262144 = g.S.Site.bounds_stride in
+    record {
+      room = omega (
+        arith,
+        ap length c.put_record.ensures.bytes,
+        length_batch c.args.batch.now c.put_record.ensures.spelled,
+        c.zeros_ahead.ensures.few,
+        c.STRIDE.ensures,
+        stride,
+        c.put_record.ensures.grows,
+        c.self.invariant,
+      );
+    }
 
 -- whatever came of the write
 stays : (g : Over) (c : After-write_at g) → g.S.Site.honest c.args.site.now

@@ -1,0 +1,6 @@
+//! Flags that threads share.
+#![tactic(auto)]
+
+mod flags;
+
+pub use flags::{Flag, Stop};
