@@ -3,7 +3,7 @@
     cluster load kill-cluster soak soak-absent hostile closed-streams dead-member refused-flood stray-frames many-sessions \
     stale-collects costs worked-rows trusted links beside look look-picture hostile-status mistakes deb test-systemd \
     tls-cluster clients page-bytes one-session half-close idle-cluster power-cut slow-readers full-pipe operator-places many-nodes \
-    upgrade chain first-store snapshots partial-writes wrong-places mutated-hellos
+    upgrade chain first-store snapshots partial-writes wrong-places mutated-hellos http-clients
 
 # Plays the script that ships with the program before any proof.
 try:
@@ -220,6 +220,11 @@ operator-places:
 mutated-hellos:
 	@$(BUILD) ccnode
 	@python3 tools/mutated_hellos.py crates/ccnode/out/ccnode
+
+# Asks nodes over HTTP as the pages say that one may, by a million mutated requests, without a quorum and under kills.
+http-clients:
+	@$(BUILD) ccnode
+	@python3 tools/http_clients.py crates/ccnode/out/ccnode
 
 # Makes each mistake with addresses, ids and folders in a cluster with clients: each has to be named, and nothing lost. A minute
 # and a half.

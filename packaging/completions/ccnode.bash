@@ -11,7 +11,7 @@ _ccnode_places() {
 _ccnode_options() {
     case $1 in
         format) echo '--initial --contacts --beta --gamma --share --cluster --help' ;;
-        run) echo '--listen --listen-clients --operators --speaks --peers --peers-file --status --log --help' ;;
+        run) echo '--listen --listen-clients --operators --speaks --peers --peers-file --status --http --http-sessions --http-origin --log --help' ;;
         ask) echo '--text --request --timeout --wait --snapshot --status --json --help' ;;
         status) echo '--json --watch --help' ;;
         load) echo '--clients --seconds --collects --sessions-from --json --help' ;;
@@ -31,7 +31,7 @@ _ccnode() {
     for ((at = 1; at < ${#words[@]} - 1; at++)); do
         case ${words[at]} in
             --initial | --contacts | --beta | --gamma | --share | --cluster | --listen | --peers | --peers-file) ((at++)) ;;
-            --listen-clients | --operators | --speaks | --status | --log | --text | --request | --timeout) ((at++)) ;;
+            --listen-clients | --operators | --speaks | --status | --http | --http-sessions | --http-origin | --log | --text | --request | --timeout) ((at++)) ;;
             --clients | --seconds | --sessions-from) ((at++)) ;;
             -*) ;;
             *) if [[ -z $subcommand ]]; then subcommand=${words[at]}; else ((places++)); fi ;;

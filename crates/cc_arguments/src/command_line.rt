@@ -65,6 +65,9 @@ the same cluster that looks for just that peer. An answer to an operation goes t
 node that asked, and the others are told that they need not wait for it. Programs up to
 0.1 know neither: beside one all nodes run with --speaks 0.1.
 
+Clients that speak HTTP ask at the ADDR of --http: `curl http://ADDR/v1/` tells what
+there is. They may store and read, and no more.
+
 An ADDR is an IPv4 address, an IPv6 address in brackets or the name of a machine, with a
 port: 127.0.0.1:7001, [::1]:7001, node-1.example:7001. A name is looked up at each
 connection.
@@ -283,6 +286,21 @@ const RUN: Subcommand = Subcommand {
             "status",
             "ADDR",
             "Where it tells its status over HTTP [default: nowhere]",
+        ),
+        Word::Option(
+            "http",
+            "ADDR",
+            "Where clients ask that speak HTTP [default: nowhere]",
+        ),
+        Word::Option(
+            "http-sessions",
+            "N",
+            "How many of its sessions it keeps for those that bring none [default: 64]",
+        ),
+        Word::Option(
+            "http-origin",
+            "URL",
+            "Whose pages may write, such as http://localhost:3000 [default: nobody's]",
         ),
         Word::Option(
             "log",

@@ -133,6 +133,9 @@ fn run_words<'a>(words: &ArgMatches<'a>) -> RunWords<'a> {
         peers: words.get_str("peers"),
         peers_file: words.get_str("peers-file"),
         status: words.get_str("status"),
+        http: words.get_str("http"),
+        http_sessions: words.get_str("http-sessions"),
+        http_origin: words.get_str("http-origin"),
         log: words.get_str("log"),
     }
 }

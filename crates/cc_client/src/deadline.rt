@@ -12,9 +12,14 @@ pub struct Deadline {
 impl Deadline {
     /// It starts now, and is over in so many seconds.
     pub fn new<R: Clock>(rt: &R, seconds: u64) -> Self {
+        Deadline::within(rt, Duration::from_secs(seconds))
+    }
+
+    /// It starts now, and is over in so long.
+    pub fn within<R: Clock>(rt: &R, whole: Duration) -> Self {
         Deadline {
             start: Instant::now(rt).ok(),
-            whole: Duration::from_secs(seconds),
+            whole,
         }
     }
 

@@ -3,7 +3,7 @@
 use crate::word_fault::WordFault;
 use cc_addresses::{Address, Peer};
 use cc_views::NodeId;
-use cc_words::{Speech, address, peers, peers_in_lines};
+use cc_words::{Speech, address, number, peers, peers_in_lines};
 use std::alloc::Global;
 
 /// The words of `run` behind its folder, as they are given. None for an option that isn't.
@@ -17,8 +17,16 @@ pub struct RunWords<'a> {
     /// The path of a file whose lines are the peers.
     pub peers_file: Option<&'a str>,
     pub status: Option<&'a str>,
+    pub http: Option<&'a str>,
+    pub http_sessions: Option<&'a str>,
+    pub http_origin: Option<&'a str>,
     pub log: Option<&'a str>,
 }
+
+// How many sessions a node has, and how many of them it keeps for clients over HTTP where it isn't said.
+const MOST_SESSIONS: u64 = 256;
+
+const USUAL_OWN_SESSIONS: u16 = 64;
 
 /// How much a node notes: what is of a level, and of those before it.
 #[derive(Clone, Copy, PartialEq, Eq)]
@@ -55,15 +63,19 @@ pub struct RunOrder {
     pub peers: Vec<Peer>,
     /// Where it tells its status. None where it doesn't.
     pub status: Option<Address>,
+    /// Where clients reach it that speak HTTP. None where none do.
+    pub http: Option<Address>,
+    /// How many of its sessions it keeps for those that bring none.
+    pub http_sessions: u16,
     pub log: LogLevel,
 }
 
 impl RunOrder {
-    /// What these words ask for: the address behind `--listen`, those behind `--listen-clients` and `--status` where they are
-    /// given, whether `--operators` is on, as it is where it isn't given, what it `--speaks`, which is that of this program where it
-    /// isn't given, the peers behind `--peers` or those on the lines of
-    /// the file behind `--peers-file`, none where neither is given, and the level behind `--log`, else info. `lines` is the
-    /// text of that file. A peer that is named twice is a fault.
+    /// What these words ask for: the address behind `--listen`; those behind `--listen-clients`, `--status` and `--http` where
+    /// they are given; whether `--operators` is on, as by default; what the node `--speaks`, what this program speaks by default;
+    /// the peers behind `--peers`, or on the lines of the file behind `--peers-file`, none by default; the number behind
+    /// `--http-sessions`, 64 by default; and the level behind `--log`, info by default. `lines` is the text of that file. A peer
+    /// that is named twice is a fault.
     pub fn parse(
         alloc: Global,
         words: &RunWords<'_>,
@@ -74,6 +86,11 @@ impl RunOrder {
         let remote_operators = switch_in(words.operators)?;
         let speech = speech_in(words.speaks)?;
         let status = address_in(words.status, WordFault::Status)?;
+        let http = address_in(words.http, WordFault::Http)?;
+        let http_sessions = own_sessions_in(words.http_sessions)?;
+        if !words.http_origin.is_none_or(is_origin) {
+            return Err(WordFault::HttpOrigin);
+        }
         let log = level_in(words.log)?;
         if words.peers.is_some() && words.peers_file.is_some() {
             return Err(WordFault::PeersTwice);
@@ -86,6 +103,8 @@ impl RunOrder {
             speech,
             peers,
             status,
+            http,
+            http_sessions,
             log,
         })
     }
@@ -128,6 +147,32 @@ fn speech_in(word: Option<&str>) -> Result<Speech, WordFault> {
     match word {
         Some(word) => Speech::named(word).ok_or(WordFault::Speaks),
         None => Ok(Speech::Now),
+    }
+}
+
+// Whether a word is the origin of pages: a scheme, a host, and a port where it isn't the usual one.
+fn is_origin(word: &str) -> bool {
+    let host = match word.strip_prefix("http://") {
+        Some(host) => Some(host),
+        None => word.strip_prefix("https://"),
+    };
+    match host {
+        Some(host) => !host.is_empty()
+            && host
+                .bytes()
+                .all(|byte| byte.is_ascii_graphic() && byte != b'/'),
+        None => false,
+    }
+}
+
+// How many sessions are kept for clients that bring none: 64, where it isn't said.
+fn own_sessions_in(word: Option<&str>) -> Result<u16, WordFault> {
+    let Some(word) = word else {
+        return Ok(USUAL_OWN_SESSIONS);
+    };
+    match number(word) {
+        Some(count) if count <= MOST_SESSIONS => Ok(count as u16),
+        _ => Err(WordFault::HttpSessions),
     }
 }
 

@@ -29,6 +29,9 @@ pub enum WordFault {
     /// A node stands twice in that file.
     LineTwice,
     Status,
+    Http,
+    HttpSessions,
+    HttpOrigin,
     Log,
     Session,
     Command,
@@ -84,6 +87,9 @@ impl WordFault {
             WordFault::Line(_) => "isn't ID=ADDR, such as 2=127.0.0.1:7002",
             WordFault::LineTwice => "names a node twice",
             WordFault::Status => "--status isn't an address and a port, such as 127.0.0.1:8001",
+            WordFault::Http => "--http isn't an address and a port, such as 127.0.0.1:8080",
+            WordFault::HttpSessions => "--http-sessions isn't a number from 0 to 256",
+            WordFault::HttpOrigin => "--http-origin isn't an origin, such as http://localhost:3000",
             WordFault::Log => "--log isn't one of: error, warn, info, debug",
             WordFault::Session => "SESSION isn't a number, such as 7",
             WordFault::Command => {

@@ -1,10 +1,12 @@
 //! A node that runs.
 
+use cc_addresses::Address;
 use cc_arguments::VERSION;
 use cc_checkpoint::OpenFault;
 use cc_commands::{IdentityError, identity_of_folder, node_in_folder};
-use cc_flags::Stop;
-use cc_intake::NoHooks;
+use cc_flags::{Flag, Stop};
+use cc_gateway::{Gateway, end_web, listen as listen_for_web, serve_web};
+use cc_intake::{Finished, NoHooks};
 use cc_orders::{RunOrder, RunWords, WordFault};
 use cc_server::{Config, RunFault, run_node};
 use cc_shared::ReadText;
@@ -13,10 +15,12 @@ use cc_terminal::{
     print_word_fault, random_number, wait_for_folder,
 };
 use cc_views::NodeId;
+use cc_web::WebSettings;
 use cc_words::Identity;
 use crossbeam_channel::bounded;
 use log::Log;
 use std::fs::{File, Files};
+use std::hash::RandomState;
 use std::net::{Net, TcpListener, TcpStream};
 use std::process::ExitCode;
 use std::random::RandomSource;
@@ -33,7 +37,7 @@ pub fn run<R, N>(
     words: &RunWords<'_>,
 ) -> anyhow::Result<ExitCode>
 where
-    R: Files<File = File> + Machinery + RandomSource,
+    R: Files<File = File> + Machinery + RandomSource + Sync,
     N: Net<Listener = TcpListener, Stream = TcpStream>
         + Threads
         + Wait
@@ -52,7 +56,7 @@ where
     let order = RunOrder::parse(rt.alloc(), words, lines.as_deref());
     drop(lines);
     match order {
-        Ok(order) => run_as(rt, machine, folder, order, words.peers_file),
+        Ok(order) => run_as(rt, machine, folder, order, words),
         Err(fault) => print_order_fault(rt, fault, words.peers_file),
     }
 }
@@ -82,10 +86,10 @@ fn run_as<R, N>(
     machine: &N,
     folder: &str,
     order: RunOrder,
-    peers_file: Option<&str>,
+    words: &RunWords<'_>,
 ) -> anyhow::Result<ExitCode>
 where
-    R: Files<File = File> + Machinery + RandomSource,
+    R: Files<File = File> + Machinery + RandomSource + Sync,
     N: Net<Listener = TcpListener, Stream = TcpStream>
         + Threads
         + Wait
@@ -94,6 +98,7 @@ where
         + Log
         + Sync,
 {
+    let peers_file = words.peers_file;
     if let Err(error) = print_lost(rt, folder) {
         drop(order);
         return Err(error);
@@ -124,13 +129,64 @@ where
         return print_no_random(rt);
     };
     let known = Known { identity, run };
+    let web = Web {
+        listen: order.http,
+        settings: WebSettings {
+            own_sessions: order.http_sessions,
+            allowed_origin: words.http_origin.map(str::as_bytes),
+        },
+    };
     let config = config_of(folder, order, own, known, peers_file);
-    let outcome = run_node(machine, rt, rt.alloc(), &config, &Stop::new(), &NoHooks);
+    let outcome = run_beside(rt, machine, &config, web);
     drop(config);
     match outcome {
         Ok(_) => Ok(ExitCode::SUCCESS),
         Err(fault) => print_run_fault(rt, folder, fault),
     }
+}
+
+// Where clients ask that speak HTTP, if they may, and what they may do.
+#[derive(Clone, Copy)]
+struct Web<'a> {
+    listen: Option<Address>,
+    settings: WebSettings<'a>,
+}
+
+// Runs a node, and what serves its clients that speak HTTP.
+fn run_beside<R, N>(
+    rt: &R,
+    machine: &N,
+    config: &Config<'_>,
+    web: Web<'_>,
+) -> Result<Finished<()>, RunFault>
+where
+    R: Files<File = File> + Machinery + RandomSource + Sync,
+    N: Net<Listener = TcpListener, Stream = TcpStream>
+        + Threads
+        + Wait
+        + Clock
+        + ReadText
+        + Log
+        + Sync,
+{
+    let stop = Stop::new();
+    let Some(listen) = web.listen else {
+        return run_node(machine, rt, rt.alloc(), config, &stop, &NoHooks);
+    };
+    let listener = listen_for_web(machine, listen).ok_or(RunFault::Listen)?;
+    let keys = RandomState::new(rt).or(Err(RunFault::Listen))?;
+    let over = Flag::new();
+    let gateway = Gateway::new(rt.alloc(), config.listen, web.settings, keys, &over);
+    let ((), outcome) = thread::join(
+        machine,
+        || serve_web(machine, &gateway, &listener),
+        || {
+            let outcome = run_node(machine, rt, rt.alloc(), config, &stop, &NoHooks);
+            end_web(machine, &over, &listener);
+            outcome
+        },
+    );
+    outcome
 }
 
 // What tells a node from others that runs.
@@ -160,6 +216,8 @@ fn config_of<'a>(
         speech,
         peers,
         status,
+        http: _,
+        http_sessions: _,
         log: _,
     } = order;
     Config {

@@ -100,6 +100,9 @@ fn alone() -> RunWords<'static> {
         peers: None,
         peers_file: None,
         status: None,
+        http: None,
+        http_sessions: None,
+        http_origin: None,
         log: None,
     }
 }
@@ -114,6 +117,9 @@ fn run_with<'a>(words: &RunWords<'a>, place: WordFault, text: &'a str) -> RunWor
         WordFault::Speaks => words.speaks = Some(text),
         WordFault::Peers | WordFault::PeerTwice => words.peers = Some(text),
         WordFault::Status => words.status = Some(text),
+        WordFault::Http => words.http = Some(text),
+        WordFault::HttpSessions => words.http_sessions = Some(text),
+        WordFault::HttpOrigin => words.http_origin = Some(text),
         _ => words.log = Some(text),
     }
     words
@@ -268,6 +274,30 @@ fn run_speaks_as_this_program_or_an_older_one(rt: HostRuntime) {
     assert!(rt; speaks(&rt, &alone_with(WordFault::Speaks, "0.1"), Speech::Before));
 }
 
+// Whether a node takes clients over HTTP just there, with so many sessions of its own.
+fn takes_web<R: Abort + AllocGlobal>(
+    rt: &R,
+    words: &RunWords<'_>,
+    http: Option<Address>,
+    own_sessions: u16,
+) -> bool {
+    let order = RunOrder::parse(rt.alloc(), words, None).expect(rt, "an order");
+    let told = (order.http, order.http_sessions);
+    drop(order);
+    told == (http, own_sessions)
+}
+
+#[test]
+fn run_takes_clients_over_http_where_it_is_told(rt: HostRuntime) {
+    assert!(rt; takes_web(&rt, &alone(), None, 64));
+    let web = alone_with(WordFault::Http, "127.0.0.1:8080");
+    assert!(rt; takes_web(&rt, &web, Some(local(8080)), 64));
+    let all = run_with(&web, WordFault::HttpSessions, "256");
+    assert!(rt; takes_web(&rt, &all, Some(local(8080)), 256));
+    let page = run_with(&web, WordFault::HttpOrigin, "http://localhost:3000");
+    assert!(rt; takes_web(&rt, &page, Some(local(8080)), 64));
+}
+
 #[test]
 fn run_takes_all_from_all_by_itself(rt: HostRuntime) {
     assert!(rt; guards(&rt, &alone(), None, true));
@@ -277,7 +307,7 @@ fn run_takes_all_from_all_by_itself(rt: HostRuntime) {
 }
 
 // A word that a node can't run by, and the fault that names its place.
-const NO_RUNS: [(WordFault, &str); 8] = [
+const NO_RUNS: [(WordFault, &str); 15] = [
     (WordFault::Listen, "7001"),
     (WordFault::ListenClients, "7501"),
     (WordFault::Operators, "On"),
@@ -285,6 +315,13 @@ const NO_RUNS: [(WordFault, &str); 8] = [
     (WordFault::Peers, ""),
     (WordFault::PeerTwice, "2=127.0.0.1:7002,2=127.0.0.1:7003"),
     (WordFault::Status, "8001"),
+    (WordFault::Http, "8080"),
+    (WordFault::HttpSessions, "257"),
+    (WordFault::HttpSessions, ""),
+    (WordFault::HttpOrigin, "localhost:3000"),
+    (WordFault::HttpOrigin, "http://"),
+    (WordFault::HttpOrigin, "http://localhost:3000/"),
+    (WordFault::HttpOrigin, "https://a b"),
     (WordFault::Log, "Info"),
 ];
 

@@ -1,0 +1,5 @@
+mod Endings
+mod RoundLemmas
+mod ServiceLemmas
+mod StepLemmas
+mod Texts

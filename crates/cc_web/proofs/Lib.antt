@@ -1,0 +1,7 @@
+mod Numbers
+mod OrderLaws
+mod OrderSteps
+mod OwnChoices
+mod OwnLaws
+mod Pieces
+mod Texts

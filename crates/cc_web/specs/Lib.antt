@@ -1,0 +1,16 @@
+pub mod Bodies
+pub mod Calls
+pub mod Json
+pub mod Keys
+pub mod OrderLaws
+pub mod Orders
+pub mod Origins
+pub mod OwnHistories
+pub mod OwnSessions
+pub mod Places
+pub mod Problems
+pub mod Responses
+pub mod Retries
+pub mod Statuses
+pub mod Timeouts
+pub mod Words
