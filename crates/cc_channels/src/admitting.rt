@@ -1,7 +1,7 @@
 //! Where a worker's events wait until the node has room for them.
 
-ghost use Rattle.std.specs.Prelude.{◌≡◌, true, OnOk, OnErr, IfErr};
-ghost use Rattle.cc_channels.specs.Admissions.{IsWhy};
+ghost use Rattle.std.specs.Prelude.{◌≡◌, true, None, OnOk, OnErr, IfErr};
+ghost use Rattle.cc_channels.specs.Admissions.{IsWhy, with_greeter};
 
 use crate::admission::{Admission, NotAdmitted};
 use crate::connections::{Connection, Connections};
@@ -11,6 +11,7 @@ use crate::waker::Waker;
 use cc_messages::Event;
 use cc_protocol::{Admitted, Objection, Spoken, may_speak, speaker_of};
 use cc_views::NodeId;
+use std::marker::Model;
 use std::sync::Wait;
 use std::sync::atomic::{AtomicU64, Ordering};
 
@@ -38,10 +39,11 @@ pub trait Admitting {
     ) -> Result<(), NotAdmitted>
         ensures turned_away { OnErr result may_turn_away }
         ensures may_come { OnOk result (comes self.now event.now ≡ true) }
+        ensures unobjected { OnOk result (may_turn_away → objection ≡ None) }
         ensures why { IfErr result (λ why. IsWhy (comes self.now event.now) objection why) };
 }
 
-/// The permits of a node for what comes over one connection.
+/// The permits of a node for what comes over one connection. Contracts see what may come over it.
 #[derive(Drop)]
 pub struct ConnectionAdmission<'a, F: Flushed> {
     admission: &'a Admission<F>,
@@ -59,6 +61,18 @@ pub struct ConnectionAdmission<'a, F: Flushed> {
     speaks_for: AtomicU64,
 }
 
+impl<'a, F: Flushed> Model for ConnectionAdmission<'a, F> {
+    ghost use Rattle.cc_channels.specs.Admissions.{Rights};
+
+    ghost Value = { Rights };
+
+    ghost view = { λ a. record {
+      access = a.admitted.access;
+      needs_greeting = a.needs_greeting;
+      greeter = a.greeter;
+    } };
+}
+
 impl<'a, F: Flushed> ConnectionAdmission<'a, F> {
     /// Of a connection over which nobody has greeted.
     pub fn new(
@@ -69,7 +83,9 @@ impl<'a, F: Flushed> ConnectionAdmission<'a, F> {
         connection: &'a Connection,
         admitted: Admitted,
         me: NodeId,
-    ) -> Self {
+    ) -> Self
+        ensures { (result.access ≡ admitted.access) × (result.greeter ≡ None) }
+    {
         ConnectionAdmission {
             admission,
             waker,
@@ -85,7 +101,9 @@ impl<'a, F: Flushed> ConnectionAdmission<'a, F> {
     }
 
     /// A node greeted over the connection, and was taken: from now on the connection brings of nodes what that one sends alone.
-    pub fn greet(&mut self, greeter: NodeId) {
+    pub fn greet(&mut self, greeter: NodeId)
+        ensures { self.new ≡ with_greeter self.old greeter }
+    {
         self.greeter = Some(greeter);
     }
 
@@ -100,12 +118,12 @@ impl<'a, F: Flushed> ConnectionAdmission<'a, F> {
 }
 
 impl<F: Flushed> Admitting for ConnectionAdmission<'_, F> {
-    ghost use Rattle.std.specs.Prelude.{⊤, ◌&&◌};
-    ghost use Rattle.cc_protocol.specs.Access.{allows, may_speak};
+    ghost use Rattle.std.specs.Prelude.{⊤};
+    ghost use Rattle.cc_channels.specs.Admissions.{may_come};
 
     ghost may_turn_away = { ⊤ };
 
-    ghost comes = { λ a e. allows a.admitted.access e && may_speak a.greeter a.needs_greeting e };
+    ghost comes = { may_come };
 
     fn may_come(&self, event: &Event) -> bool {
         self.admitted.access.allows(event) && may_speak(self.greeter, self.needs_greeting, event)

@@ -1,6 +1,7 @@
 //! What is to be written to a peer.
 
-ghost use Rattle.std.specs.Prelude.{◌≡◌, ◌≤◌, ◌++◌, [], drop, length, nat_lt, OnOk, OnErr, IfOk, MatchOption, ⊤};
+ghost use Rattle.std.specs.Prelude.{◌≡◌, ◌≤◌, ◌++◌, [], drop, length, nat_lt, true, OnOk, OnErr, IfOk, MatchOption, ⊤};
+ghost use Rattle.cc_protocol.specs.Bundles.{no_parcel};
 ghost use Rattle.cc_channels.specs.SendBuffers.{nothing, with_one_more, rest_alone, unsent_bytes};
 
 use cc_protocol::{Bundle, Parcel};
@@ -47,7 +48,9 @@ impl SendBuffer {
     }
 
     /// Whether nothing is to be written.
-    pub fn is_empty(&self) -> bool {
+    pub fn is_empty(&self) -> bool
+        ensures { result ≡ true → (self.now.rest ≡ []) × (self.now.bundle ≡ no_parcel) }
+    {
         self.rest.is_none() && self.bundle.is_none()
     }
 

@@ -7,7 +7,6 @@ mod gauges;
 mod pages;
 mod serving;
 mod timed;
-mod visitors;
 
 pub use board::{Board, Laid};
 pub use gauges::Gauges;

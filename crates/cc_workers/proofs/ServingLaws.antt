@@ -1,8 +1,9 @@
 -- What a worker brings.
 --     same_again   whether an event is brought again, whatever it repeats
 --     none_due     none is due where none is brought again
---     unasked      of a frame that only a node sends
+--     unasked      of a frame that only a server sends
 --     greets       of a greeting
+--     taken, guarded      of a frame that is an event
 --     brings       of one that gives and hears so
 use Rattle.std.proofs.Common.{◌≡◌, ℕ, List, [], ◌∷◌, Option, Some, None, Bool, true, false, Result, Ok, Err, sym, ap, subst, refl, ◌∙◌}
 use Rattle.std.specs.Prelude.{IfSome, if◌then◌else◌}
@@ -12,7 +13,6 @@ use Rattle.cc_messages.specs.declared.refusal.Refusal.{Refusal}
 use Rattle.cc_messages.specs.declared.refusal.Refusal.TheVariants as refusal
 use Rattle.cc_intake.specs.Talks.{Answer, Spoke, Talks}
 use Rattle.cc_frames.specs.declared.frame.Frame.{Frame}
-use Rattle.cc_frames.specs.declared.frame.Frame.TheVariants as frames
 use Rattle.cc_frames.specs.declared.hello.Hello.{Hello}
 use Rattle.cc_messages.specs.declared.command.Command.{Command}
 use Rattle.cc_protocol.specs.declared.heeding.Duty.{Duty}
@@ -20,7 +20,7 @@ use Rattle.cc_protocol.specs.Heeding.{heed_of, heed_refused}
 use Rattle.cc_protocol.specs.Incoming.{Next}
 use Rattle.cc_protocol.specs.Frames.{event_in}
 use Rattle.cc_workers.specs.declared.caller.Done.{Done}
-use Rattle.cc_workers.specs.Serving.{duty_of, brings_again, due_after, Takes, IsUnasked, Greets, Stops, Worker, Gives, Hears, Brings}
+use Rattle.cc_workers.specs.Serving.{duty_of, brings_again, due_after, Takes, greeting_in, IsUnasked, Greets, wants_silence, Guards, Stops, Worker, Gives, Hears, Brings}
 
 asked_again : (session request : ℕ) (command : Command) (why : Refusal) (differs : Bool)
     → brings_again (heed_refused (event.Ask session request command) why differs) ≡ brings_again (heed_refused (event.Ask session request command) why false)
@@ -71,14 +71,24 @@ none_due e answer differs b d is brings is_false =
     ap (λ (x : Bool). if x then Some e else None) (sym none)
 
 pub unasked : (ahead : Option (List ℕ)) (frame : Frame) (after : Option (List ℕ)) → IfSome ahead (λ bytes. Next bytes frame after) → event_in frame ≡ None
-    → IfSome ahead (λ bytes. IsUnasked bytes)
-unasked None frame after next none = tt
-unasked (Some bytes) frame after next none = (frame, after, next, none)
+    → greeting_in frame ≡ None → IfSome ahead (λ bytes. IsUnasked bytes)
+unasked None frame after next none other = tt
+unasked (Some bytes) frame after next none other = (frame, after, next, none, other)
 
-pub greets : (ahead : Option (List ℕ)) (hello : Hello) (after : Option (List ℕ)) → IfSome ahead (λ bytes. Next bytes (frames.Hello hello) after)
-    → IfSome ahead (λ bytes. Greets bytes hello)
-greets None hello after next = tt
-greets (Some bytes) hello after next = (after, next)
+pub greets : (ahead : Option (List ℕ)) (frame : Frame) (hello : Hello) (after : Option (List ℕ)) → IfSome ahead (λ bytes. Next bytes frame after)
+    → greeting_in frame ≡ Some hello → IfSome ahead (λ bytes. Greets bytes hello)
+greets None frame hello after next is = tt
+greets (Some bytes) frame hello after next is = (frame, after, next, is)
+
+pub taken : (ahead : Option (List ℕ)) (frame : Frame) (after : Option (List ℕ)) (e : Event) → IfSome ahead (λ bytes. Next bytes frame after)
+    → event_in frame ≡ Some e → Takes None ahead e after
+taken None frame after e next some = tt
+taken (Some bytes) frame after e next some = (frame, next, some)
+
+pub guarded : (ahead : Option (List ℕ)) (frame : Frame) (after : Option (List ℕ)) (e : Event) (was is : Bool) → IfSome ahead (λ bytes. Next bytes frame after)
+    → event_in frame ≡ Some e → is ≡ wants_silence frame → Guards None ahead e was is
+guarded None frame after e was is next some same = tt
+guarded (Some bytes) frame after e was is next some same = (frame, after, next, some, same)
 
 module _ (fails turns : Type 0) (answers : Event → Answer → Type 0) where
   stopped : (due : Option Event) (ahead : Option (List ℕ)) (why : Done) → Stops fails turns due ahead why

@@ -2,7 +2,9 @@
 --     duty_of             what an answer of the intake asks of a worker
 --     due_after           the event that is brought again after this answer, if any
 --     Takes, Stops        the event that comes next, and what is left of the bytes; why none comes
---     IsUnasked, Greets   the frame that comes next is one that only a node sends;  or a greeting
+--     IsUnasked, Greets   the frame that comes next is one that only a server sends; or a greeting
+--     Guards              whether the event that comes next is the retirement of a node that has to be silent
+--     IsTaken             the node that is taken at the end of a worker is the one that greeted, where nodes may speak
 --     Gives, Hears        what one event and one answer leave of a worker
 --     Brings              in which order events are answered
 use Rattle.std.specs.Prelude.{◌≡◌, ℕ, ◌++◌, List, [], ◌∷◌, Bool, true, false, Option, Some, None, IfSome, if◌then◌else◌, Ok, Err, ⊤}
@@ -37,13 +39,32 @@ abbrev pub Takes : Option Event → Option (List ℕ) → Event → Option (List
 Takes (Some due) ahead e after = (e ≡ due) × (after ≡ ahead)
 Takes None ahead e after = IfSome ahead (λ bytes. (frame : Frame) × Next bytes frame after × (event_in frame ≡ Some e))
 
--- the frame that comes next is one that only a node sends
+-- the greeting that a frame is
+abbrev pub greeting_in : Frame → Option Hello
+greeting_in (frames.Hello hello) = Some hello
+greeting_in _ = None
+
+-- the frame that comes next brings no event, and is no greeting
 abbrev pub IsUnasked : List ℕ → Type 0
-IsUnasked bytes = (frame : Frame) × (left : Option (List ℕ)) × Next bytes frame left × (event_in frame ≡ None)
+IsUnasked bytes = (frame : Frame) × (left : Option (List ℕ)) × Next bytes frame left × (event_in frame ≡ None) × (greeting_in frame ≡ None)
 
 -- the frame that comes next is that greeting
 abbrev pub Greets : List ℕ → Hello → Type 0
-Greets bytes hello = (left : Option (List ℕ)) × Next bytes (frames.Hello hello) left
+Greets bytes hello = (frame : Frame) × (left : Option (List ℕ)) × Next bytes frame left × (greeting_in frame ≡ Some hello)
+
+-- whether a frame retires a node only where that one is silent
+abbrev pub wants_silence : Frame → Bool
+wants_silence (frames.RetireIfSilent node) = true
+wants_silence _ = false
+
+-- An event that is due again is guarded as it was.
+abbrev pub Guards : Option Event → Option (List ℕ) → Event → Bool → Bool → Type 0
+Guards (Some due) ahead e was guarded = guarded ≡ was
+Guards None ahead e was guarded =
+    IfSome ahead (λ bytes. (frame : Frame) × (left : Option (List ℕ)) × Next bytes frame left × (event_in frame ≡ Some e) × (guarded ≡ wants_silence frame))
+
+abbrev pub IsTaken : Bool → Done → ℕ → Type 0
+IsTaken may_speak why node = (may_speak ≡ true) × (hello : Hello) × (why ≡ done.Greets hello) × (node ≡ hello.from)
 
 -- Why no event comes. Whatever the reader is why of, no event was due; it failed only where it can, and an event is turned
 -- away only where one can be.

@@ -1,5 +1,8 @@
 //! One connection: its worker and its writer.
 
+ghost use Rattle.std.specs.Prelude.{◌≡◌, IfSome};
+ghost use Rattle.cc_workers.specs.Serving.{IsTaken};
+
 use crate::caller::{Done, serve};
 use crate::context::Context;
 use cc_channels::{Connection, NotAdmitted, TimedInput, bytes_of};
@@ -158,7 +161,9 @@ fn greeter_by<R: Wait + Log, H: Hooks, L: Life, Q: Lane>(
     admitted: Admitted,
     done: &Done,
     from: SocketAddr,
-) -> Option<NodeId> {
+) -> Option<NodeId>
+    ensures { IfSome result (λ node. IsTaken admitted.access.nodes done.now node) }
+{
     match done {
         Done::Greets(hello) if admitted.access.nodes => receive(context, connection, hello, from),
         _ => None,
@@ -171,7 +176,9 @@ fn receive<R: Wait + Log, H: Hooks, L: Life, Q: Lane>(
     connection: &Connection,
     hello: &Hello,
     from: SocketAddr,
-) -> Option<NodeId> {
+) -> Option<NodeId>
+    ensures { IfSome result (λ node. node ≡ hello.now.from) }
+{
     let (rt, shared) = (context.rt, context.shared);
     let greeted = shared.reception.greet(rt, hello)?;
     let visitor = Visitor {

@@ -1,8 +1,8 @@
 //! A worker of one connection.
 
-ghost use Rattle.std.specs.Prelude.{◌≡◌, ◌+◌, List, None, IfSome, MatchResult};
+ghost use Rattle.std.specs.Prelude.{◌≡◌, ◌+◌, List, None, IfSome, IfOk, MatchResult};
 ghost use Rattle.cc_intake.specs.Talks.{Answer, IsAnswer, places_of, PlacesRise};
-ghost use Rattle.cc_workers.specs.Serving.{brings_again, Takes, Stops, Brings};
+ghost use Rattle.cc_workers.specs.Serving.{brings_again, greeting_in, wants_silence, Takes, Guards, Stops, Brings};
 
 use crate::context::Context;
 use crate::duties::duty_of;
@@ -28,7 +28,7 @@ use std::sync::Wait;
 pub enum Done {
     /// No further frame comes.
     Frames(Ending),
-    /// A frame came that only a node sends.
+    /// A frame came that only a server sends.
     Unasked,
     /// A node greets.
     Greets(Hello),
@@ -65,17 +65,21 @@ pub struct Caller<'a, R: Wait, I: Input, S: Admitting, D: Replies, F: Flushed> {
 impl<R: Wait + Log, I: Input, S: Admitting, D: Replies, F: Flushed> Caller<'_, R, I, S, D, F> {
     // The event that comes next, or why none does.
     fn event(&mut self) -> Result<Event, Done>
-        ensures { MatchResult result
+        ensures comes { MatchResult result
             (λ e. Takes self.old.due self.old.frames e self.new.frames)
             (λ done. Stops I.may_fail S.may_turn_away self.old.due self.old.frames done) }
+        ensures guards { IfOk result (λ e. Guards self.old.due self.old.frames e self.old.is_guarded self.new.is_guarded) }
     {
         if let Some(event) = self.due.take() {
             return Ok(event);
         }
         match self.frames.read_frame() {
-            Ok(Frame::Hello(hello)) => Err(Done::Greets(hello)),
             Ok(frame) => {
-                self.is_guarded = matches!(frame, Frame::RetireIfSilent { .. });
+                self.is_guarded = wants_silence(&frame);
+                if let Some(hello) = greeting_in(&frame) {
+                    drop(frame);
+                    return Err(Done::Greets(hello));
+                }
                 match event_of(frame) {
                     Some(event) => Ok(event),
                     None => Err(Done::Unasked),
@@ -289,6 +293,23 @@ impl<R: Wait + Log, I: Input, S: Admitting, D: Replies, F: Flushed> Source
     }
 }
 
+// The greeting that a frame is.
+fn greeting_in(frame: &Frame) -> Option<Hello>
+    ensures { result ≡ greeting_in frame.now }
+{
+    match frame {
+        Frame::Hello(hello) => Some(*hello),
+        _ => None,
+    }
+}
+
+// Whether a frame retires a node only where that one is silent.
+fn wants_silence(frame: &Frame) -> bool
+    ensures { result ≡ wants_silence frame.now }
+{
+    matches!(frame, Frame::RetireIfSilent { .. })
+}
+
 // An ask that may be taken in: of another event, and of an ask under number 0, None.
 fn numbered_ask(event: &Event) -> Option<Asked> {
     match event {
@@ -324,7 +345,7 @@ fn verdict_of(why: Refusal) -> Verdict {
 }
 
 /// Brings what comes from a reader to the intake, until it ends: at the end of input, where a read fails, at bytes that
-/// spell no frame, at a frame that only a node sends, at a greeting, where the node takes no further event, and where a growth is
+/// spell no frame, at a frame that only a server sends, at a greeting, where the node takes no further event, and where a growth is
 /// refused. Of bytes that are known it brings the events of their frames, one after the other, each again where the queue was full;
 /// each answer is the intake's to that very event, and the share counts those that were accepted. It tells why it ended: that
 /// a read failed only where one can, and that an event was turned away only where one can be. What came behind the last frame is

@@ -1,6 +1,6 @@
 //! What the workers of a node share.
 
-ghost use Rattle.std.specs.Prelude.{◌≡◌, ◌+◌, List};
+ghost use Rattle.std.specs.Prelude.{◌≡◌, ◌+◌, List, None};
 ghost use Rattle.cc_intake.specs.Talks.{Answer, IsAnswer, Talks, places_of, PlacesRise};
 
 use cc_addresses::Address;
@@ -51,7 +51,9 @@ impl<R: Wait, H: Hooks, L: Life, Q: Lane> Context<'_, R, H, L, Q> {
         &'a self,
         connection: &'a Connection,
         admitted: Admitted,
-    ) -> ConnectionAdmission<'a, OfLife<L>> {
+    ) -> ConnectionAdmission<'a, OfLife<L>>
+        ensures { (result.access ≡ admitted.access) × (result.greeter ≡ None) }
+    {
         let Shared {
             waker,
             connections,

@@ -1,4 +1,4 @@
-//! How many look at a node at once.
+//! How many there are of something at once.
 
 use std::sync::atomic::{AtomicU64, Ordering};
 
@@ -10,6 +10,7 @@ pub struct Places {
 }
 
 impl Places {
+    /// Each is free.
     pub fn new(most: u64) -> Self {
         Places {
             taken: AtomicU64::new(0),
