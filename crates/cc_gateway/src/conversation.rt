@@ -13,6 +13,8 @@ use std::time::Clock;
 #[derive(Drop)]
 pub struct Conversation<'a, R> {
     pub service: WebService<'a, Line<'a, R>>,
+    /// Whether a request was answered since this was looked at last.
+    pub has_answered: bool,
 }
 
 impl<R: Wait + Clock> Conversation<'_, R> {
@@ -38,6 +40,7 @@ impl<'a, R: Wait + Clock> Service for Conversation<'a, R> {
         response: &mut Response,
     ) -> Result<(), AllocError> {
         self.service.call(request, response)?;
+        self.has_answered = true;
         if self.service.asking.is_over() {
             let name = HeaderName::from_static("connection");
             let _ = response.add_header(name, HeaderValue::from_static("close"));

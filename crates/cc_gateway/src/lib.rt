@@ -5,7 +5,6 @@
 mod conversation;
 mod desk;
 mod line;
-mod places;
 mod serving;
 mod timed_stream;
 

@@ -3,10 +3,9 @@
 use crate::conversation::Conversation;
 use crate::desk::Desk;
 use crate::line::Line;
-use crate::places::Places;
 use crate::timed_stream::TimedStream;
 use cc_addresses::{Address, connect};
-use cc_flags::Flag;
+use cc_flags::{Flag, Places};
 use cc_service::WebService;
 use cc_web::WebSettings;
 use http_server::{Config, Connection};
@@ -190,7 +189,10 @@ fn serve_over<R: Wait + Clock>(
         settings: gateway.settings,
         alloc,
     };
-    let mut conversation = Conversation { service };
+    let mut conversation = Conversation {
+        service,
+        has_answered: false,
+    };
     let mut http = Connection::new(alloc, gateway.keys, CONFIG);
     let mut timed = TimedStream::new(rt, stream, gateway.over);
     converse(&mut http, &mut conversation, &mut timed);
@@ -218,8 +220,11 @@ fn converse<R: Wait + Clock>(
             if !write_all(http, stream) {
                 return;
             }
-            stream.allow(Duration::from_secs(IDLE_S));
-            has_begun = false;
+            // What is written without an answer asks for the rest of a request.
+            has_begun = !conversation.has_answered;
+            conversation.has_answered = false;
+            let next = if has_begun { REQUEST_S } else { IDLE_S };
+            stream.allow(Duration::from_secs(next));
             continue;
         }
         let Ok(count) = http.read_from(stream) else {

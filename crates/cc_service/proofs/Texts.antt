@@ -24,6 +24,7 @@ visible_form : (f : Form) → visible_if_any (form_value f) ≡ true
 visible_form form.Json = refl
 visible_form form.Problem = refl
 visible_form form.Html = refl
+visible_form form.Events = refl
 visible_form form.Nothing = refl
 
 pub form_is_visible : (f : Form) (value : List ℕ) → Some value ≡ form_value f → is_visible_text value ≡ true
@@ -43,6 +44,7 @@ methods_are_visible place.Flag = refl
 methods_are_visible place.Set = refl
 methods_are_visible place.View = refl
 methods_are_visible place.Snapshot = refl
+methods_are_visible place.Changes = refl
 methods_are_visible (place.Session session) = refl
 
 pub value_is_visible : (f : WebField) → is_visible_text (field_value f) ≡ true

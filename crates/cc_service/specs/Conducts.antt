@@ -2,13 +2,16 @@
 --     Tries         an ask under a key of the client's own
 --     Owns          an ask under a session of the node's own
 --     Shows         collects until two in a row show the same
+--     Follows       collects until one shows something else than what is known
 --     Conducts      what an order does
 use Rattle.std.specs.Prelude.{◌≡◌, ℕ, ◌+◌, Bool, true, false, List, [], ◌∷◌, ◌++◌, Option, Some, None, Result, Ok, Err, if◌then◌else◌}
-use Rattle.cc_views.specs.Rows.{ViewMap}
+use Rattle.std.specs.List.{AllByRecursion}
+use Rattle.cc_views.specs.Rows.{ViewMap, rows_of}
 use Rattle.cc_views.specs.Merge.{IsAtMost}
 use Rattle.cc_messages.specs.declared.answer.Answer.TheVariants as answers
 use Rattle.cc_messages.specs.declared.command.Command.{Command}
 use Rattle.cc_messages.specs.declared.command.Command.TheVariants as command
+use Rattle.cc_web.specs.Changes.{is_news}
 use Rattle.cc_web.specs.OrderLaws.{stores}
 use Rattle.cc_web.specs.declared.key.AskKey.{AskKey}
 use Rattle.cc_web.specs.declared.order.Task.{Task}
@@ -75,6 +78,26 @@ pub data Shows (start : ℕ) : List Step → Reply → Type 0 where
   late : {steps : List Step} (earlier : List Asked) → Rounds command.Collect start steps earlier → left_in start steps ≡ 0
       → Shows start steps (reply.Problem problem.NoSnapshot)
 
+-- a collect showed just what was known
+abbrev pub IsKnown : Option ℕ → Asked → Type 0
+IsKnown known became = (view : ViewMap) × (became ≡ asked.Answered (answers.Seen view)) × (is_news known (rows_of view) ≡ false)
+
+-- Each collect before showed what was known.
+pub data Follows (known : Option ℕ) (start : ℕ) : List Step → Reply → Type 0 where
+  -- a collect shows something else
+  changed : {steps : List Step} (earlier : List Asked) (view : ViewMap)
+      → Rounds command.Collect start steps (asked.Answered (answers.Seen view) ∷ earlier) → AllByRecursion (IsKnown known) earlier
+      → is_news known (rows_of view) ≡ true → Follows known start steps (reply.Changed view)
+  -- a collect isn't answered
+  unanswered : {steps : List Step} (earlier : List Asked) (became : Asked) → Rounds command.Collect start steps (became ∷ earlier)
+      → AllByRecursion (IsKnown known) earlier → seen_of became ≡ Err became → Follows known start steps (own_reply false (Some became))
+  -- no session is free
+  crowded : {before : List Step} (earlier : List Asked) → Rounds command.Collect start before earlier → AllByRecursion (IsKnown known) earlier
+      → Follows known start (Takes None ∷ before) (reply.Problem problem.NoSession)
+  -- no time is left
+  unchanged : {steps : List Step} (earlier : List Asked) → Rounds command.Collect start steps earlier → AllByRecursion (IsKnown known) earlier
+      → left_in start steps ≡ 0 → Follows known start steps reply.Unchanged
+
 abbrev pub ConductsAsk : Option AskKey → Command → ℕ → List Step → Reply → Type 0
 ConductsAsk (Some key) what millis steps r = (became : Asked) × Tries key what millis steps became × (r ≡ reply_of (stores what) became)
 ConductsAsk None what millis steps r = (became : Option Asked) × Owns what millis steps became × (r ≡ own_reply (stores what) became)
@@ -85,6 +108,7 @@ ConductsTask (task.Preflight place) key millis steps r = (steps ≡ []) × (r �
 ConductsTask (task.LastRequest session) key millis steps r =
     (became : Asked) × Tries (record { session = session; request = 0 }) command.Collect millis steps became × (r ≡ last_reply_of session became)
 ConductsTask task.Snapshot key millis steps r = (inner : List Step) × IsTimed millis inner steps × Shows millis inner r
+ConductsTask (task.Changes known) key millis steps r = (inner : List Step) × IsTimed millis inner steps × Follows known millis inner r
 ConductsTask (task.Ask what) key millis steps r = ConductsAsk key what millis steps r
 
 abbrev pub Conducts : WebOrder → List Step → Reply → Type 0

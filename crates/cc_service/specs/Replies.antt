@@ -3,9 +3,11 @@
 --     last_reply_of     to who asks for the last request of a session
 --     head_of, HasBody  the head and the body of a reply
 use Rattle.std.specs.Prelude.{◌≡◌, ⊤, ℕ, Bool, false, List, [], Option, Some, None, if◌then◌else◌}
+use Rattle.cc_views.specs.Rows.{rows_of}
 use Rattle.cc_messages.specs.declared.refusal.Refusal.TheVariants as refusal
 use Rattle.cc_web.specs.Problems.{problem_json}
-use Rattle.cc_web.specs.Responses.{answer_json, last_request_json, json_head, problem_head, overview_head, preflight_head}
+use Rattle.cc_web.specs.Changes.{change_event, no_event}
+use Rattle.cc_web.specs.Responses.{answer_json, last_request_json, json_head, events_head, problem_head, overview_head, preflight_head}
 use Rattle.cc_web.specs.declared.problem.Problem.TheVariants as problem
 use Rattle.cc_web.specs.declared.response.WebHead.{WebHead}
 use Rattle.cc_service.specs.declared.asked.Asked.{Asked}
@@ -33,6 +35,8 @@ abbrev pub head_of : Reply → WebHead
 head_of (reply.Overview is_html) = overview_head is_html
 head_of (reply.Preflight place) = preflight_head place
 head_of (reply.Answer answer collects) = json_head
+head_of (reply.Changed view) = events_head
+head_of reply.Unchanged = events_head
 head_of (reply.LastRequest session last) = json_head
 head_of (reply.Problem why) = problem_head why
 
@@ -41,5 +45,7 @@ abbrev pub HasBody : Reply → List ℕ → Type 0
 HasBody (reply.Overview is_html) body = ⊤
 HasBody (reply.Preflight place) body = body ≡ []
 HasBody (reply.Answer answer collects) body = body ≡ answer_json answer collects
+HasBody (reply.Changed view) body = body ≡ change_event (rows_of view)
+HasBody reply.Unchanged body = body ≡ no_event
 HasBody (reply.LastRequest session last) body = body ≡ last_request_json session last
 HasBody (reply.Problem why) body = body ≡ problem_json why

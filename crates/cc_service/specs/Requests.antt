@@ -21,7 +21,8 @@ stands_twice headers name = nat_lt 1 (length (get_all headers name))
 
 -- the fields that are looked at
 abbrev pub read_names : List (List ℕ)
-read_names = codes "accept" ∷ codes "content-type" ∷ codes "idempotency-key" ∷ codes "origin" ∷ codes "sec-fetch-site" ∷ []
+read_names = codes "accept" ∷ codes "content-type" ∷ codes "idempotency-key" ∷ codes "origin" ∷ codes "sec-fetch-site"
+    ∷ codes "last-event-id" ∷ []
 
 abbrev pub has_double : Entries FieldValue → Bool
 has_double headers = list_any (stands_twice headers) read_names
@@ -39,6 +40,7 @@ pub record IsRequest (sent : Request (List ℕ)) (r : WebRequest) : Type 0 where
   pub idempotency_key : option_copied r.idempotency_key ≡ value_under (head_of sent).headers (codes "idempotency-key")
   pub origin : option_copied r.origin ≡ value_under (head_of sent).headers (codes "origin")
   pub sec_fetch_site : option_copied r.sec_fetch_site ≡ value_under (head_of sent).headers (codes "sec-fetch-site")
+  pub last_event_id : option_copied r.last_event_id ≡ value_under (head_of sent).headers (codes "last-event-id")
   pub body : r.body.now ≡ body_of sent
 
 -- the one fault that is seen before cc_web sees the request

@@ -7,6 +7,7 @@ ghost use Rattle.cc_service.specs.Steps.{Step, Leads};
 
 use crate::asked::Asked;
 use crate::asking::Asking;
+use crate::follow::follow_changes;
 use crate::reply::Reply;
 use crate::round::ask_own;
 use crate::snapshot::take_snapshot;
@@ -32,6 +33,10 @@ pub fn carry_out<A: Asking>(asking: &mut A, order: &WebOrder) -> Reply
         Task::Snapshot => {
             asking.begin(order.timeout_ms);
             take_snapshot(asking, order.timeout_ms)
+        }
+        Task::Changes(known) => {
+            asking.begin(order.timeout_ms);
+            follow_changes(asking, *known, order.timeout_ms)
         }
         Task::Ask(command) => ask_for(asking, order.key, command, order.timeout_ms),
     }

@@ -5,6 +5,7 @@
 mod asked;
 mod asking;
 mod conduct;
+mod follow;
 mod reply;
 mod request;
 mod response;
@@ -16,6 +17,7 @@ mod trial;
 pub use asked::Asked;
 pub use asking::Asking;
 pub use conduct::carry_out;
+pub use follow::follow_changes;
 pub use reply::Reply;
 pub use request::{origin_in, web_request};
 pub use response::put_response;

@@ -6,10 +6,10 @@ ghost use Rattle.cc_service.specs.Replies.{reply_of, own_reply, last_reply_of, h
 use crate::asked::Asked;
 use crate::round::is_behind;
 use cc_messages::{Answer, Refusal};
-use cc_views::NoMemory;
+use cc_views::{NoMemory, View};
 use cc_web::{
-    Place, Problem, WebResponse, answer_response, last_request_response, overview_response,
-    preflight_response, problem_response,
+    Place, Problem, WebResponse, answer_response, change_response, last_request_response,
+    no_change_response, overview_response, preflight_response, problem_response,
 };
 use std::alloc::Global;
 
@@ -27,6 +27,10 @@ pub enum Reply {
         answer: Answer,
         collects: Option<u64>,
     },
+    /// A view, as an event.
+    Changed(View),
+    /// No event.
+    Unchanged,
     /// The last request of a session.
     LastRequest {
         session: u64,
@@ -83,6 +87,8 @@ impl Reply {
             Reply::Overview { is_html } => overview_response(alloc, *is_html),
             Reply::Preflight(place) => Ok(preflight_response(alloc, *place)),
             Reply::Answer { answer, collects } => answer_response(alloc, answer, *collects),
+            Reply::Changed(view) => change_response(alloc, view),
+            Reply::Unchanged => no_change_response(alloc),
             Reply::LastRequest { session, last } => last_request_response(alloc, *session, *last),
             Reply::Problem(problem) => problem_response(alloc, *problem),
         }

@@ -20,6 +20,7 @@ pub fn web_request(request: &Request<Bytes>) -> Result<WebRequest<'_>, WebFault>
     let idempotency_key = value_of(headers, "idempotency-key")?;
     let origin = value_of(headers, "origin")?;
     let sec_fetch_site = value_of(headers, "sec-fetch-site")?;
+    let last_event_id = value_of(headers, "last-event-id")?;
     Ok(WebRequest {
         method: request.method().as_str(),
         path: request.uri().path(),
@@ -29,6 +30,7 @@ pub fn web_request(request: &Request<Bytes>) -> Result<WebRequest<'_>, WebFault>
         idempotency_key,
         origin,
         sec_fetch_site,
+        last_event_id,
         body: request.body().as_slice(),
     })
 }

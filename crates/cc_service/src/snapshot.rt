@@ -48,7 +48,7 @@ pub fn take_snapshot<A: Asking>(asking: &mut A, timeout_ms: u64) -> Reply
 }
 
 // The view that was collected, or what else became of the ask.
-fn seen_of(became: Asked) -> Result<View, Asked>
+pub(crate) fn seen_of(became: Asked) -> Result<View, Asked>
     ensures { result ≡ seen_of became }
 {
     match became {

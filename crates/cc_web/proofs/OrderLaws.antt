@@ -23,7 +23,7 @@ use Rattle.cc_web.specs.declared.order.Task.TheVariants as task
 use Rattle.cc_web.specs.declared.place.Place.{Place}
 use Rattle.cc_web.specs.declared.place.Place.TheVariants as place
 use Rattle.cc_web.specs.declared.request.WebRequest.{WebRequest}
-use Rattle.cc_web.proofs.OrderSteps.{okay, ok_is, first_step, from_allowed, foreign, task_in, html_in, steps}
+use Rattle.cc_web.proofs.OrderSteps.{okay, ok_is, first_step, from_allowed, foreign, task_in, html_in, known_to, steps}
 
 -- a test that passed
 kept : {A : Type 0} (b : Bool) (a x : A) (why : WebFault) → cond b (okay a) (Err why) ≡ Ok x → (b ≡ true) × (a ≡ x)
@@ -68,6 +68,7 @@ reads place.Flag = (refl, refl)
 reads place.Set = (refl, refl)
 reads place.View = (refl, refl)
 reads place.Snapshot = (refl, refl)
+reads place.Changes = (refl, refl)
 reads (place.Session session) = (refl, refl)
 
 puts : (p : Place) → is_harmless (putting_of p) ≡ true
@@ -79,6 +80,7 @@ puts place.Flag = refl
 puts place.Set = refl
 puts place.View = refl
 puts place.Snapshot = refl
+puts place.Changes = refl
 puts (place.Session session) = refl
 
 posts : (p : Place) → is_harmless (posting_of p) ≡ true
@@ -90,6 +92,7 @@ posts place.Flag = refl
 posts place.Set = refl
 posts place.View = refl
 posts place.Snapshot = refl
+posts place.Changes = refl
 posts (place.Session session) = refl
 
 harmless : (p : Place) (m : List ℕ) (a : Bool) → is_harmless (call_of p m a) ≡ true
@@ -113,6 +116,7 @@ changing (call.Write what) q w safe e does = refl
 changing call.Overview q w safe e does = absurd (unchanged (length q.body.now == 0) (task.Overview (html_in q)) w fault.TooLong e refl does)
 changing (call.LastRequest session) q w safe e does = absurd (unchanged (length q.body.now == 0) (task.LastRequest session) w fault.TooLong e refl does)
 changing call.Snapshot q w safe e does = absurd (unchanged (length q.body.now == 0) task.Snapshot w fault.TooLong e refl does)
+changing call.Changes q w safe e does = absurd (unchanged (length q.body.now == 0) (task.Changes (known_to q)) w fault.TooLong e refl does)
 changing (call.Read c) q w safe e does = absurd (unchanged (length q.body.now == 0) (task.Ask c) w fault.TooLong e (not-true (stores c) safe) does)
 changing (call.Preflight p) q w safe e does = absurd (unchanged (length q.body.now == 0) (task.Preflight p) w fault.TooLong e refl does)
 
@@ -124,6 +128,7 @@ asking (call.Write what) q w one e =
 asking call.Overview q w one e = absurd (false≢true one)
 asking (call.LastRequest session) q w one e = absurd (false≢true one)
 asking call.Snapshot q w one e = absurd (false≢true one)
+asking call.Changes q w one e = absurd (false≢true one)
 asking (call.Read c) q w one e = ap is_ask (sym (kept (length q.body.now == 0) (task.Ask c) w fault.TooLong e).1)
 asking (call.Preflight p) q w one e = absurd (false≢true one)
 

@@ -7,7 +7,7 @@ use Rattle.std.specs.Option.{option_copied, ok_or}
 use Rattle.cc_web.specs.Bodies.{is_plain}
 use Rattle.cc_web.specs.Calls.{call_of, is_write, is_one_ask}
 use Rattle.cc_web.specs.Keys.{key_in}
-use Rattle.cc_web.specs.Orders.{◌>>=◌, fails_if, is_html, task_of, order_of}
+use Rattle.cc_web.specs.Orders.{◌>>=◌, fails_if, is_html, known_in, task_of, order_of}
 use Rattle.cc_web.specs.Origins.{is_allowed, is_foreign}
 use Rattle.cc_web.specs.Places.{place_at}
 use Rattle.cc_web.specs.Timeouts.{timeout_in}
@@ -49,8 +49,11 @@ foreign q = is_foreign (option_copied q.origin) (option_copied q.sec_fetch_site)
 abbrev pub html_in : WebRequest → Bool
 html_in q = is_html (option_copied q.accept)
 
+abbrev pub known_to : WebRequest → Option ℕ
+known_to q = known_in (option_copied q.last_event_id)
+
 abbrev pub task_in : WebRequest → Call → Result Task WebFault
-task_in q c = task_of c q.body.now (html_in q)
+task_in q c = task_of c q.body.now (html_in q) (known_to q)
 
 abbrev ordered : ℕ → Option AskKey → Task → Result WebOrder WebFault
 ordered t k w = let o : WebOrder = record { task = w; key = k; timeout_ms = t } in okay o

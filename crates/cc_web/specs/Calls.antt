@@ -16,6 +16,7 @@ reading_of place.Flag = Some (call.Read command.ReadFlag)
 reading_of place.Set = Some (call.Read command.ReadSet)
 reading_of place.View = Some (call.Read command.Collect)
 reading_of place.Snapshot = Some call.Snapshot
+reading_of place.Changes = Some call.Changes
 reading_of (place.Session session) = Some (call.LastRequest session)
 
 -- what stands is replaced, or raised

@@ -1,5 +1,6 @@
 pub mod Bodies
 pub mod Calls
+pub mod Changes
 pub mod Json
 pub mod Keys
 pub mod OrderLaws

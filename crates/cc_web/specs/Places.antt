@@ -20,7 +20,8 @@ place_at path =
     if is_text (codes "/v1/flag") path then Some place.Flag else (
     if is_text (codes "/v1/set") path then Some place.Set else (
     if is_text (codes "/v1/view") path then Some place.View else (
-    if is_text (codes "/v1/snapshot") path then Some place.Snapshot else session_at path))))))
+    if is_text (codes "/v1/snapshot") path then Some place.Snapshot else (
+    if is_text (codes "/v1/changes") path then Some place.Changes else session_at path)))))))
 
 abbrev pub methods_of : Place → List ℕ
 methods_of place.Overview = codes "GET, HEAD"
@@ -30,4 +31,5 @@ methods_of place.Flag = codes "GET, HEAD, PUT"
 methods_of place.Set = codes "GET, HEAD, POST"
 methods_of place.View = codes "GET, HEAD"
 methods_of place.Snapshot = codes "GET, HEAD"
+methods_of place.Changes = codes "GET, HEAD"
 methods_of (place.Session session) = codes "GET, HEAD"

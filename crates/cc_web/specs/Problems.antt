@@ -82,7 +82,7 @@ detail_of (problem.Fault why) = fault_detail why
 detail_of (problem.Refused why) = refused_detail why
 detail_of (problem.Late true) = codes "no answer in time: the write may still be done"
 detail_of (problem.Late false) = codes "no answer in time: nothing was read"
-detail_of problem.NoSession = codes "too many requests are under way"
+detail_of problem.NoSession = codes "no session of the node's own is free: it has too many requests, or hasn't joined yet"
 detail_of problem.NoSnapshot = codes "no two collects in a row showed the same view in time"
 
 -- where a refusal tells the last request of its session

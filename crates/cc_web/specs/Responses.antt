@@ -1,6 +1,6 @@
 -- Which response an answer is.
 --     answer_json, last_request_json       the body that gives an answer;  that tells the last request of a session
---     json_head, problem_head, overview_head, preflight_head       the heads
+--     json_head, events_head, problem_head, overview_head, preflight_head       the heads
 --     form_value, field_name, field_value      how the fields of a head are written
 use Rattle.std.specs.Prelude.{ℕ, Bool, true, false, List, [], ◌∷◌, Option, Some, None, codes}
 use Rattle.std.specs.Fmt.{decimal}
@@ -51,6 +51,7 @@ abbrev pub form_value : Form → Option (List ℕ)
 form_value form.Json = Some (codes "application/json")
 form_value form.Problem = Some (codes "application/problem+json")
 form_value form.Html = Some (codes "text/html; charset=utf-8")
+form_value form.Events = Some (codes "text/event-stream")
 form_value form.Nothing = None
 
 abbrev pub field_name : WebField → List ℕ
@@ -67,6 +68,9 @@ field_value (header.AllowMethods place) = methods_of place
 
 abbrev pub json_head : WebHead
 json_head = record { status = status.Ok; form = form.Json; field = None }
+
+abbrev pub events_head : WebHead
+events_head = record { status = status.Ok; form = form.Events; field = None }
 
 -- what passes is worth another try
 abbrev pub retry_field : Status → Option WebField

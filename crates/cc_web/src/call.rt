@@ -12,6 +12,7 @@ pub enum Call {
     Overview,
     LastRequest(u64),
     Snapshot,
+    Changes,
     /// A command that reads, which needs no body.
     Read(Command),
     Write(Write),
@@ -69,6 +70,7 @@ fn reading_of(place: Place) -> Option<Call>
         Place::Set => Some(Call::Read(Command::ReadSet)),
         Place::View => Some(Call::Read(Command::Collect)),
         Place::Snapshot => Some(Call::Snapshot),
+        Place::Changes => Some(Call::Changes),
         Place::Session(session) => Some(Call::LastRequest(session)),
     }
 }

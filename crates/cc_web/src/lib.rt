@@ -4,6 +4,7 @@
 
 mod body;
 mod call;
+mod changes;
 mod fault;
 mod json;
 mod key;
@@ -23,6 +24,7 @@ mod timeout;
 mod words;
 
 pub use call::{Call, Write};
+pub use changes::{change_response, is_news, no_change_response, stores_in};
 pub use fault::WebFault;
 pub use key::AskKey;
 pub use order::{Task, WebOrder, order_of};

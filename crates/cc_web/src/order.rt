@@ -2,7 +2,7 @@
 
 ghost use Rattle.std.specs.Prelude.{◌≡◌};
 ghost use Rattle.std.specs.Option.{option_copied};
-ghost use Rattle.cc_web.specs.Orders.{order_of, task_of, is_html};
+ghost use Rattle.cc_web.specs.Orders.{order_of, task_of, is_html, known_in};
 
 use crate::body::{is_plain, written_in};
 use crate::call::Call;
@@ -12,6 +12,7 @@ use crate::origin::{is_allowed, is_foreign};
 use crate::place::Place;
 use crate::request::{WebRequest, WebSettings};
 use crate::timeout::timeout_in;
+use crate::words::number_in;
 use cc_messages::Command;
 
 /// What is to be done for a request.
@@ -25,6 +26,8 @@ pub enum Task {
     LastRequest(u64),
     /// Collect until two collects in a row show one view.
     Snapshot,
+    /// Collect until a collect shows another number of stores than the one that is known, if one is.
+    Changes(Option<u64>),
     /// Ask this.
     Ask(Command),
 }
@@ -58,7 +61,8 @@ pub fn order_of(settings: &WebSettings<'_>, request: &WebRequest<'_>) -> Result<
     if !request.body.is_empty() && !is_plain(request.content_type) {
         return Err(WebFault::ContentType);
     }
-    let task = task_of(call, request.body, is_html(request.accept))?;
+    let known = known_in(request.last_event_id);
+    let task = task_of(call, request.body, is_html(request.accept), known)?;
     Ok(WebOrder {
         task,
         key,
@@ -77,9 +81,16 @@ fn is_html(accept: Option<&[u8]>) -> bool
     }
 }
 
+// How many stores the last event of a stream had. Another word is as good as none.
+fn known_in(last_event_id: Option<&[u8]>) -> Option<u64>
+    ensures { result ≡ known_in (option_copied last_event_id.entry) }
+{
+    number_in(last_event_id?)
+}
+
 #[tactic(auto, unfolding(crate::specs::Orders::task_of))]
-fn task_of(call: Call, body: &[u8], is_html: bool) -> Result<Task, WebFault>
-    ensures { result ≡ task_of call body.now is_html }
+fn task_of(call: Call, body: &[u8], is_html: bool, known: Option<u64>) -> Result<Task, WebFault>
+    ensures { result ≡ task_of call body.now is_html known }
 {
     match call {
         Call::Write(write) => Ok(Task::Ask(written_in(write, body)?)),
@@ -87,6 +98,7 @@ fn task_of(call: Call, body: &[u8], is_html: bool) -> Result<Task, WebFault>
         Call::Overview => Ok(Task::Overview { is_html }),
         Call::LastRequest(session) => Ok(Task::LastRequest(session)),
         Call::Snapshot => Ok(Task::Snapshot),
+        Call::Changes => Ok(Task::Changes(known)),
         Call::Read(command) => Ok(Task::Ask(command)),
         Call::Preflight(place) => Ok(Task::Preflight(place)),
     }

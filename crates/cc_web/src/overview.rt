@@ -32,6 +32,7 @@ td, th { text-align: left; vertical-align: top; padding: .3rem 1rem .3rem 0; bor
 <tr><td><code>GET /v1/flag</code></td><td>whether any node's flag is set</td></tr>
 <tr><td><code>GET /v1/set</code></td><td>the union of all nodes' sets</td></tr>
 <tr><td><code>GET /v1/snapshot</code></td><td>what each node had stored at one moment</td></tr>
+<tr><td><code>GET /v1/changes</code></td><td>what each node stored last, as an event whenever it changes</td></tr>
 <tr><td><code>GET /v1/sessions/SESSION</code></td><td>the last request of a session of your own</td></tr>
 </table>
 <p><code>?timeout=5s</code> (or <code>500ms</code>) says how long a request may take: ten seconds else, a minute at most.
@@ -44,4 +45,4 @@ curl http://HOST:PORT/v1/view</pre>
 "##;
 
 const JSON: &str =
-    r##"{"writes":["PUT /v1/text","PUT /v1/max","PUT /v1/flag","POST /v1/set"],"readings":["GET /v1/view","GET /v1/max","GET /v1/flag","GET /v1/set","GET /v1/snapshot","GET /v1/sessions/SESSION"],"query":"timeout=5s","once":"Idempotency-Key: SESSION/REQUEST"}"##;
+    r##"{"writes":["PUT /v1/text","PUT /v1/max","PUT /v1/flag","POST /v1/set"],"readings":["GET /v1/view","GET /v1/max","GET /v1/flag","GET /v1/set","GET /v1/snapshot","GET /v1/changes","GET /v1/sessions/SESSION"],"query":"timeout=5s","once":"Idempotency-Key: SESSION/REQUEST"}"##;

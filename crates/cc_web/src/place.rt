@@ -22,6 +22,8 @@ pub enum Place {
     View,
     /// The same at one moment.
     Snapshot,
+    /// The same whenever it changes.
+    Changes,
     /// The last request of this session.
     Session(u64),
 }
@@ -40,6 +42,7 @@ impl Place {
             "/v1/set" => Some(Place::Set),
             "/v1/view" => Some(Place::View),
             "/v1/snapshot" => Some(Place::Snapshot),
+            "/v1/changes" => Some(Place::Changes),
             _ => session_at(path.as_bytes()),
         }
     }
@@ -52,7 +55,8 @@ impl Place {
             Place::Text => "PUT",
             Place::Max | Place::Flag => "GET, HEAD, PUT",
             Place::Set => "GET, HEAD, POST",
-            Place::Overview | Place::View | Place::Snapshot | Place::Session(_) => "GET, HEAD",
+            Place::Overview | Place::View | Place::Snapshot | Place::Changes | Place::Session(_) =>
+                "GET, HEAD",
         }
     }
 }

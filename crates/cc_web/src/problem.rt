@@ -88,7 +88,8 @@ impl Problem {
             Problem::Refused(why) => refused_detail(why),
             Problem::Late { is_write: true } => "no answer in time: the write may still be done",
             Problem::Late { is_write: false } => "no answer in time: nothing was read",
-            Problem::NoSession => "too many requests are under way",
+            Problem::NoSession =>
+                "no session of the node's own is free: it has too many requests, or hasn't joined yet",
             Problem::NoSnapshot => "no two collects in a row showed the same view in time",
         }
     }

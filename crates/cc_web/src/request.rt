@@ -14,6 +14,7 @@ pub struct WebRequest<'a> {
     pub idempotency_key: Option<&'a [u8]>,
     pub origin: Option<&'a [u8]>,
     pub sec_fetch_site: Option<&'a [u8]>,
+    pub last_event_id: Option<&'a [u8]>,
     pub body: &'a [u8],
 }
 

@@ -38,6 +38,8 @@ pub enum Form {
     Json,
     Problem,
     Html,
+    /// Server-sent events.
+    Events,
     /// There is none.
     Nothing,
 }
@@ -79,6 +81,7 @@ impl Form {
             Form::Json => Some("application/json"),
             Form::Problem => Some("application/problem+json"),
             Form::Html => Some("text/html; charset=utf-8"),
+            Form::Events => Some("text/event-stream"),
             Form::Nothing => None,
         }
     }
@@ -123,7 +126,7 @@ fn put_collects(out: &mut Vec<u8>, collects: Option<u64>) -> Result<(), AllocErr
     }
 }
 
-fn put_view(
+pub(crate) fn put_view(
     alloc: Global,
     out: &mut Vec<u8>,
     rows: &[Row],
@@ -185,7 +188,7 @@ fn put_last_request(out: &mut Vec<u8>, session: u64, last: u64) -> Result<(), Al
 }
 
 // The response with that head, whose body was written so.
-fn finished(
+pub(crate) fn finished(
     head: WebHead,
     body: Vec<u8>,
     put: Result<(), AllocError>,

@@ -9,7 +9,7 @@ use cc_gateway::{Gateway, end_web, listen as listen_for_web, serve_web};
 use cc_intake::{Finished, NoHooks};
 use cc_orders::{RunOrder, RunWords, WordFault};
 use cc_server::{Config, RunFault, run_node};
-use cc_shared::ReadText;
+use cc_shared::Machine;
 use cc_terminal::{
     BAD_COMMAND_LINE, FAULT, Machinery, print_lost, print_trouble, print_unreadable,
     print_word_fault, random_number, wait_for_folder,
@@ -18,15 +18,11 @@ use cc_views::NodeId;
 use cc_web::WebSettings;
 use cc_words::Identity;
 use crossbeam_channel::bounded;
-use log::Log;
 use std::fs::{File, Files};
 use std::hash::RandomState;
-use std::net::{Net, TcpListener, TcpStream};
 use std::process::ExitCode;
 use std::random::RandomSource;
-use std::sync::Wait;
-use std::thread::Threads;
-use std::time::{Clock, Duration};
+use std::time::Duration;
 use std::{fs, thread};
 
 /// Runs the node of a folder, on a machine with a log of its own: the status of that.
@@ -38,13 +34,7 @@ pub fn run<R, N>(
 ) -> anyhow::Result<ExitCode>
 where
     R: Files<File = File> + Machinery + RandomSource + Sync,
-    N: Net<Listener = TcpListener, Stream = TcpStream>
-        + Threads
-        + Wait
-        + Clock
-        + ReadText
-        + Log
-        + Sync,
+    N: Machine,
 {
     let lines = match words.peers_file {
         Some(file) => match fs::read_to_string(rt, file) {
@@ -90,13 +80,7 @@ fn run_as<R, N>(
 ) -> anyhow::Result<ExitCode>
 where
     R: Files<File = File> + Machinery + RandomSource + Sync,
-    N: Net<Listener = TcpListener, Stream = TcpStream>
-        + Threads
-        + Wait
-        + Clock
-        + ReadText
-        + Log
-        + Sync,
+    N: Machine,
 {
     let peers_file = words.peers_file;
     if let Err(error) = print_lost(rt, folder) {
@@ -161,13 +145,7 @@ fn run_beside<R, N>(
 ) -> Result<Finished<()>, RunFault>
 where
     R: Files<File = File> + Machinery + RandomSource + Sync,
-    N: Net<Listener = TcpListener, Stream = TcpStream>
-        + Threads
-        + Wait
-        + Clock
-        + ReadText
-        + Log
-        + Sync,
+    N: Machine,
 {
     let stop = Stop::new();
     let Some(listen) = web.listen else {
@@ -176,7 +154,8 @@ where
     let listener = listen_for_web(machine, listen).ok_or(RunFault::Listen)?;
     let keys = RandomState::new(rt).or(Err(RunFault::Listen))?;
     let over = Flag::new();
-    let gateway = Gateway::new(rt.alloc(), config.listen, web.settings, keys, &over);
+    let node = config.listen_clients.unwrap_or(config.listen);
+    let gateway = Gateway::new(rt.alloc(), node, web.settings, keys, &over);
     let ((), outcome) = thread::join(
         machine,
         || serve_web(machine, &gateway, &listener),

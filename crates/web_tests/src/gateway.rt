@@ -240,13 +240,42 @@ fn read_all<R: Abort + AllocGlobal>(rt: &R, lines: &mut Lines) {
     carries(rt, lines, 10, &[2], &SEEN, snapshot);
 }
 
+// The same with number 4.
+const SEEN_LATER: [u8; 27] = [
+    2, 0, 1, 0, 0, 0, 1, 0, 0, 0, 0, 0, 0, 0, 4, 1, 97, 0, 0, 0, 0, 0, 0, 0, 0, 0, 0,
+];
+
+// Who knows nothing is told what stands; who knows that, what comes later; and where nothing comes in time, nothing.
+fn follow<R: Abort + AllocGlobal>(rt: &R, lines: &mut Lines) {
+    lines.asks(rt, "GET /v1/changes HTTP/1.1\r\nhost: a\r\n\r\n");
+    let first =
+        "HTTP/1.1 200 OK\r\ncontent-type: text/event-stream\r\ncache-control: no-store\r\nx-content-type-options: nosniff\r\ncontent-length: 102\r\n\r\nretry: 100\nid: 3\ndata: {\"rows\":[{\"node\":1,\"number\":\"3\",\"text\":\"a\",\"max\":\"0\",\"flag\":false,\"set\":[]}]}\n\n";
+    carries(rt, lines, 11, &[2], &SEEN, first);
+    lines.asks(
+        rt,
+        "GET /v1/changes HTTP/1.1\r\nhost: a\r\nlast-event-id: 3\r\n\r\n",
+    );
+    lines.is_asked(rt, LAST, 12, &[2]);
+    lines.replies(rt, LAST, 12, &SEEN);
+    let later =
+        "HTTP/1.1 200 OK\r\ncontent-type: text/event-stream\r\ncache-control: no-store\r\nx-content-type-options: nosniff\r\ncontent-length: 102\r\n\r\nretry: 100\nid: 4\ndata: {\"rows\":[{\"node\":1,\"number\":\"4\",\"text\":\"a\",\"max\":\"0\",\"flag\":false,\"set\":[]}]}\n\n";
+    carries(rt, lines, 13, &[2], &SEEN_LATER, later);
+    lines.asks(
+        rt,
+        "GET /v1/changes?timeout=100ms HTTP/1.1\r\nhost: a\r\nlast-event-id: 4\r\n\r\n",
+    );
+    let nothing =
+        "HTTP/1.1 200 OK\r\ncontent-type: text/event-stream\r\ncache-control: no-store\r\nx-content-type-options: nosniff\r\ncontent-length: 12\r\n\r\nretry: 100\n\n";
+    carries(rt, lines, 14, &[2], &SEEN_LATER, nothing);
+}
+
 // What passes is asked again under its number. A session that somebody else uses is left for the other one.
 fn ask_again<R: Abort + AllocGlobal>(rt: &R, lines: &mut Lines) {
     lines.asks(rt, PUT_A);
-    lines.is_asked(rt, LAST, 11, &STORE_A);
-    lines.refuses(rt, LAST, 11, 13, 0);
-    lines.is_asked(rt, LAST, 11, &STORE_A);
-    lines.refuses(rt, LAST, 11, 11, 40);
+    lines.is_asked(rt, LAST, 15, &STORE_A);
+    lines.refuses(rt, LAST, 15, 13, 0);
+    lines.is_asked(rt, LAST, 15, &STORE_A);
+    lines.refuses(rt, LAST, 15, 11, 40);
     lines.is_asked(rt, LAST_BUT_ONE, 5, &STORE_A);
     lines.replies(rt, LAST_BUT_ONE, 5, &[1]);
     lines.hears(rt, STORED);
@@ -312,6 +341,7 @@ fn talk<R: Abort + AllocGlobal + Net<Stream = TcpStream>>(
     let mut lines = connect(rt, web, node);
     write_all(rt, &mut lines);
     read_all(rt, &mut lines);
+    follow(rt, &mut lines);
     ask_again(rt, &mut lines);
     ask_as_client(rt, &mut lines);
     ask_nothing(rt, &mut lines);

@@ -7,7 +7,3 @@ mod gateway;
 mod requests;
 #[cfg(test)]
 mod responses;
-#[cfg(test)]
-mod retries;
-#[cfg(test)]
-mod sessions;

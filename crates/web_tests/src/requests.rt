@@ -21,6 +21,7 @@ fn bare<'a>(method: &'a str, path: &'a str, body: &'a [u8]) -> WebRequest<'a> {
         idempotency_key: None,
         origin: None,
         sec_fetch_site: None,
+        last_event_id: None,
         body,
     }
 }
@@ -64,39 +65,33 @@ fn each_write_is_a_command(rt: HostRuntime) {
     );
 }
 
+const READINGS: [(&str, &str, Task); 7] = [
+    ("GET", "/v1/view", Task::Ask(Command::Collect)),
+    ("GET", "/v1/max", Task::Ask(Command::ReadMax)),
+    ("GET", "/v1/flag", Task::Ask(Command::ReadFlag)),
+    ("HEAD", "/v1/set", Task::Ask(Command::ReadSet)),
+    ("GET", "/v1/snapshot", Task::Snapshot),
+    ("GET", "/v1/sessions/7", Task::LastRequest(7)),
+    ("GET", "/v1/", Task::Overview { is_html: false }),
+];
+
 #[test]
 fn each_reading_is_a_task(rt: HostRuntime) {
-    is_task(
-        &rt,
-        &bare("GET", "/v1/view", b""),
-        Task::Ask(Command::Collect),
-    );
-    is_task(
-        &rt,
-        &bare("GET", "/v1/max", b""),
-        Task::Ask(Command::ReadMax),
-    );
-    is_task(
-        &rt,
-        &bare("GET", "/v1/flag", b""),
-        Task::Ask(Command::ReadFlag),
-    );
-    is_task(
-        &rt,
-        &bare("HEAD", "/v1/set", b""),
-        Task::Ask(Command::ReadSet),
-    );
-    is_task(&rt, &bare("GET", "/v1/snapshot", b""), Task::Snapshot);
-    is_task(
-        &rt,
-        &bare("GET", "/v1/sessions/7", b""),
-        Task::LastRequest(7),
-    );
-    is_task(
-        &rt,
-        &bare("GET", "/v1/", b""),
-        Task::Overview { is_html: false },
-    );
+    for &(method, path, task) in &READINGS {
+        is_task(&rt, &bare(method, path, b""), task);
+    }
+}
+
+#[test]
+fn a_stream_goes_on_behind_its_last_event(rt: HostRuntime) {
+    let mut request = bare("GET", "/v1/changes", b"");
+    is_task(&rt, &request, Task::Changes(None));
+    request.last_event_id = Some(b"18446744073709551615");
+    is_task(&rt, &request, Task::Changes(Some(u64::MAX)));
+    for other in ["", "07", "-1", "18446744073709551616", "7 "] {
+        request.last_event_id = Some(other.as_bytes());
+        is_task(&rt, &request, Task::Changes(None));
+    }
 }
 
 #[test]
@@ -126,38 +121,20 @@ fn other_paths_have_nothing(rt: HostRuntime) {
     }
 }
 
+const OTHER_METHODS: [(&str, &str, Place); 6] = [
+    ("GET", "/v1/text", Place::Text),
+    ("POST", "/v1/text", Place::Text),
+    ("PUT", "/v1/set", Place::Set),
+    ("put", "/v1/max", Place::Max),
+    ("DELETE", "/v1/flag", Place::Flag),
+    ("OPTIONS", "/v1/view", Place::View),
+];
+
 #[test]
 fn other_methods_are_told_apart(rt: HostRuntime) {
-    is_fault(
-        &rt,
-        &bare("GET", "/v1/text", b""),
-        WebFault::Method(Place::Text),
-    );
-    is_fault(
-        &rt,
-        &bare("POST", "/v1/text", b"a"),
-        WebFault::Method(Place::Text),
-    );
-    is_fault(
-        &rt,
-        &bare("PUT", "/v1/set", b"1"),
-        WebFault::Method(Place::Set),
-    );
-    is_fault(
-        &rt,
-        &bare("put", "/v1/max", b"1"),
-        WebFault::Method(Place::Max),
-    );
-    is_fault(
-        &rt,
-        &bare("DELETE", "/v1/flag", b""),
-        WebFault::Method(Place::Flag),
-    );
-    is_fault(
-        &rt,
-        &bare("OPTIONS", "/v1/view", b""),
-        WebFault::Method(Place::View),
-    );
+    for &(method, path, place) in &OTHER_METHODS {
+        is_fault(&rt, &bare(method, path, b""), WebFault::Method(place));
+    }
 }
 
 // A request to read the maximum within the time that a query says.
@@ -279,35 +256,29 @@ fn a_body_is_taken_as_it_stands(rt: HostRuntime) {
     }
 }
 
+const NO_BODIES: [(&str, &str, &str, WebFault); 10] = [
+    ("PUT", "/v1/text", "", WebFault::Body),
+    ("PUT", "/v1/max", "", WebFault::Body),
+    ("PUT", "/v1/max", "7\n", WebFault::Body),
+    ("PUT", "/v1/max", "007", WebFault::Body),
+    ("PUT", "/v1/max", "18446744073709551616", WebFault::Body),
+    ("PUT", "/v1/max", "100000000000000000000", WebFault::TooLong),
+    ("PUT", "/v1/flag", "1", WebFault::TooLong),
+    ("POST", "/v1/set", "4294967296", WebFault::Body),
+    ("POST", "/v1/set", "42949672960", WebFault::TooLong),
+    ("GET", "/v1/view", "a", WebFault::TooLong),
+];
+
 #[test]
 fn bodies_that_are_not_what_is_written(rt: HostRuntime) {
-    is_fault(&rt, &bare("PUT", "/v1/text", b""), WebFault::Body);
+    for &(method, path, body, fault) in &NO_BODIES {
+        is_fault(&rt, &bare(method, path, body.as_bytes()), fault);
+    }
     is_fault(
         &rt,
         &bare("PUT", "/v1/text", &[b'a'; 65]),
         WebFault::TooLong,
     );
-    is_fault(&rt, &bare("PUT", "/v1/max", b""), WebFault::Body);
-    is_fault(&rt, &bare("PUT", "/v1/max", b"7\n"), WebFault::Body);
-    is_fault(&rt, &bare("PUT", "/v1/max", b"007"), WebFault::Body);
-    is_fault(
-        &rt,
-        &bare("PUT", "/v1/max", b"18446744073709551616"),
-        WebFault::Body,
-    );
-    is_fault(
-        &rt,
-        &bare("PUT", "/v1/max", b"100000000000000000000"),
-        WebFault::TooLong,
-    );
-    is_fault(&rt, &bare("PUT", "/v1/flag", b"1"), WebFault::TooLong);
-    is_fault(&rt, &bare("POST", "/v1/set", b"4294967296"), WebFault::Body);
-    is_fault(
-        &rt,
-        &bare("POST", "/v1/set", b"42949672960"),
-        WebFault::TooLong,
-    );
-    is_fault(&rt, &bare("GET", "/v1/view", b"a"), WebFault::TooLong);
 }
 
 #[test]
@@ -365,6 +336,7 @@ fn faults_come_in_one_order(rt: HostRuntime) {
         idempotency_key: Some(b"7"),
         origin: None,
         sec_fetch_site: Some(b"cross-site"),
+        last_event_id: None,
         body: b"a body too long",
     };
     is_fault(&rt, &request, WebFault::NoPlace);

@@ -3,11 +3,11 @@
 ghost use Rattle.std.specs.FinMap.{len};
 ghost use Rattle.std.specs.Prelude.{◌≡◌};
 
-use cc_messages::{Answer, NumberList, Refusal};
+use cc_messages::{Answer, Refusal};
 use cc_views::{NodeId, NumberSet, Row, Text, Value, View};
 use cc_web::{
-    Form, Place, Problem, Status, WebFault, WebField, WebResponse, answer_response,
-    last_request_response, overview_response, preflight_response, problem_response,
+    Form, Problem, Status, WebField, WebResponse, answer_response, change_response, is_news,
+    no_change_response, overview_response, problem_response, stores_in,
 };
 use std::process::Abort;
 
@@ -23,34 +23,6 @@ fn answered<R: Abort + AllocGlobal>(rt: &R, answer: Answer, body: &str) {
     let response = answer_response(rt.alloc(), &answer, None).expect(rt, "memory");
     drop(answer);
     is_json(rt, response, body);
-}
-
-#[test]
-fn answers_that_are_no_view(rt: HostRuntime) {
-    answered(&rt, Answer::Stored, r#"{"answer":"Stored"}"#);
-    answered(
-        &rt,
-        Answer::Max(u64::MAX),
-        r#"{"max":"18446744073709551615"}"#,
-    );
-    answered(&rt, Answer::Flag(true), r#"{"flag":true}"#);
-    answered(&rt, Answer::Flag(false), r#"{"flag":false}"#);
-}
-
-#[test]
-fn sets_are_strings(rt: HostRuntime) {
-    let none = Vec::new(rt.alloc());
-    answered(
-        &rt,
-        Answer::Set(NumberList::from_ascending(none)),
-        r#"{"set":[]}"#,
-    );
-    let numbers = Vec::from_slice(rt.alloc(), &[1, 2, 4_294_967_295]).expect(&rt, "memory");
-    answered(
-        &rt,
-        Answer::Set(NumberList::from_ascending(numbers)),
-        r#"{"set":["1","2","4294967295"]}"#,
-    );
 }
 
 // A view of one row.
@@ -136,19 +108,41 @@ fn other_bytes_are_base64(rt: HostRuntime) {
     );
 }
 
-#[test]
-fn a_snapshot_tells_its_collects(rt: HostRuntime) {
-    let view = View::new(rt.alloc()).expect(&rt, "memory");
-    let answer = Answer::Seen(view);
-    let response = answer_response(rt.alloc(), &answer, Some(2)).expect(&rt, "memory");
-    drop(answer);
-    is_json(&rt, response, r#"{"rows":[],"collects":2}"#);
+fn is_stream<R: Abort>(rt: &R, response: WebResponse, body: &str) {
+    let head = response.head;
+    assert!(rt; head.status == Status::Ok && matches!(head.form, Form::Events));
+    assert!(rt; response.body.as_slice() == body.as_bytes());
 }
 
 #[test]
-fn the_last_request_of_a_session(rt: HostRuntime) {
-    let response = last_request_response(rt.alloc(), 7, 3).expect(&rt, "memory");
-    is_json(&rt, response, r#"{"session":"7","last_request":"3"}"#);
+fn an_event_has_the_view_and_how_many_stores_it_shows(rt: HostRuntime) {
+    let mut value = Value::empty();
+    value.text = Text::new(b"a").unwrap();
+    let row = Row {
+        node: NodeId::new(1).unwrap(),
+        number: 3,
+        value,
+    };
+    let seen = one_row(&rt, row);
+    assert!(rt; is_news(None, seen.rows()) && is_news(Some(2), seen.rows()));
+    assert!(rt; !is_news(Some(3), seen.rows()));
+    let response = change_response(rt.alloc(), &seen).expect(&rt, "memory");
+    drop(seen);
+    is_stream(
+        &rt,
+        response,
+        "retry: 100\nid: 3\ndata: {\"rows\":[{\"node\":1,\"number\":\"3\",\"text\":\"a\",\"max\":\"0\",\"flag\":false,\"set\":[]}]}\n\n",
+    );
+    let response = no_change_response(rt.alloc()).expect(&rt, "memory");
+    is_stream(&rt, response, "retry: 100\n\n");
+}
+
+// 3 stores of one node and 2^64 - 1 of another.
+#[test]
+fn stores_are_counted_to_the_end_of_the_numbers(rt: HostRuntime) {
+    let seen = view(&rt, Text::new(b"a").unwrap());
+    assert!(rt; stores_in(seen.rows()) == u64::MAX);
+    drop(seen);
 }
 
 fn is_problem<R: Abort + AllocGlobal>(rt: &R, problem: Problem, code: u16, body: &str) {
@@ -182,87 +176,6 @@ fn refusals_have_a_name_and_a_number(rt: HostRuntime) {
 }
 
 #[test]
-fn a_deadline_says_what_may_be(rt: HostRuntime) {
-    is_problem(
-        &rt,
-        Problem::Late { is_write: true },
-        504,
-        r#"{"type":"about:blank","title":"Gateway Timeout","status":504,"detail":"no answer in time: the write may still be done"}"#,
-    );
-    is_problem(
-        &rt,
-        Problem::Late { is_write: false },
-        504,
-        r#"{"type":"about:blank","title":"Gateway Timeout","status":504,"detail":"no answer in time: nothing was read"}"#,
-    );
-}
-
-#[test]
-fn each_problem_has_its_status(rt: HostRuntime) {
-    let cases = [
-        (Problem::Fault(WebFault::Twice), 400),
-        (Problem::Fault(WebFault::NoPlace), 404),
-        (Problem::Fault(WebFault::Method(Place::Text)), 405),
-        (Problem::Fault(WebFault::Query), 400),
-        (Problem::Fault(WebFault::Origin), 403),
-        (Problem::Fault(WebFault::Key), 400),
-        (Problem::Fault(WebFault::OwnSession), 400),
-        (Problem::Fault(WebFault::ContentType), 415),
-        (Problem::Fault(WebFault::TooLong), 413),
-        (Problem::Fault(WebFault::Body), 400),
-    ];
-    for &(problem, code) in &cases {
-        assert!(rt; problem.status().code() == code);
-    }
-    let cases = [
-        (Refusal::NotJoined, 503),
-        (Refusal::OutboxFull, 503),
-        (Refusal::QueueFull, 503),
-        (Refusal::SetFull, 409),
-        (Refusal::Stale(3), 409),
-        (Refusal::TooManySessions, 409),
-        (Refusal::Spent, 500),
-    ];
-    for &(why, code) in &cases {
-        assert!(rt; Problem::Refused(why).status().code() == code);
-    }
-    assert!(rt;
-        Problem::NoSession.status().code() == 503 && Problem::NoSnapshot.status().code() == 503
-    );
-}
-
-fn is_field<R: Abort + AllocGlobal>(rt: &R, problem: Problem, name: &str, value: &str) {
-    let response = problem_response(rt.alloc(), problem).expect(rt, "memory");
-    let field = response.head.field;
-    drop(response);
-    let field = field.expect(rt, "a field");
-    assert!(rt; field.name() == name && field.value() == value);
-}
-
-#[test]
-fn fields_that_only_some_heads_have(rt: HostRuntime) {
-    is_field(
-        &rt,
-        Problem::Fault(WebFault::Method(Place::Max)),
-        "allow",
-        "GET, HEAD, PUT",
-    );
-    is_field(
-        &rt,
-        Problem::Fault(WebFault::Method(Place::Set)),
-        "allow",
-        "GET, HEAD, POST",
-    );
-    is_field(
-        &rt,
-        Problem::Refused(Refusal::QueueFull),
-        "retry-after",
-        "1",
-    );
-    is_field(&rt, Problem::NoSession, "retry-after", "1");
-}
-
-#[test]
 fn what_there_is_as_a_page_and_as_json(rt: HostRuntime) {
     let page = overview_response(rt.alloc(), true).expect(&rt, "memory");
     assert!(rt;
@@ -278,18 +191,4 @@ fn what_there_is_as_a_page_and_as_json(rt: HostRuntime) {
             .starts_with(b"{\"writes\":[\"PUT /v1/text\"")
     );
     drop(json);
-}
-
-#[test]
-fn a_preflight_has_no_body(rt: HostRuntime) {
-    let response = preflight_response(rt.alloc(), Place::Max);
-    let head = response.head;
-    assert!(rt;
-        head.status.code() == 204 && head.form.value().is_none() && response.body.is_empty()
-    );
-    drop(response);
-    let field = head.field.expect(&rt, "a field");
-    assert!(rt;
-        field.name() == "access-control-allow-methods" && field.value() == "GET, HEAD, PUT"
-    );
 }
