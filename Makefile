@@ -3,7 +3,7 @@
     cluster load kill-cluster soak soak-absent hostile closed-streams dead-member refused-flood stray-frames many-sessions \
     stale-collects costs worked-rows trusted links beside look look-picture hostile-status mistakes deb test-systemd \
     tls-cluster clients page-bytes one-session half-close idle-cluster power-cut slow-readers full-pipe operator-places many-nodes \
-    upgrade chain first-store snapshots partial-writes wrong-places mutated-hellos http-clients
+    upgrade chain first-store snapshots partial-writes wrong-places mutated-hellos http-clients turns hops
 
 # Plays the script that ships with the program before any proof.
 try:
@@ -27,7 +27,7 @@ PROGRAM = crates/ccnode/out/ccnode
 SHARE_FOLDER = $(DESTDIR)$(PREFIX)/share
 ZSH_COMPLETIONS = $(PREFIX)/share/zsh/site-functions
 PAGES = README.md docs/RUN.md docs/PLAY.md docs/status-page.png docs/SECURITY.md docs/FORMATS.md docs/SERVER.md \
-    docs/DURABILITY.md CHANGELOG.md
+    docs/DURABILITY.md docs/openapi.yaml CHANGELOG.md
 install:
 	install -D $(PROGRAM) $(DESTDIR)$(PREFIX)/bin/ccnode
 	install -D -m 644 docs/ccnode.1 $(SHARE_FOLDER)/man/man1/ccnode.1
@@ -41,7 +41,8 @@ install:
 	install -D -m 644 packaging/completions/_ccnode $(DESTDIR)$(ZSH_COMPLETIONS)/_ccnode
 	install -d $(SHARE_FOLDER)/doc/ccnode/examples/tls
 	python3 packaging/pages.py $(SHARE_FOLDER)/doc/ccnode $(PAGES)
-	install -m 644 packaging/deb/examples/* packaging/prometheus/* examples/client.py $(SHARE_FOLDER)/doc/ccnode/examples/
+	install -m 644 packaging/deb/examples/* packaging/prometheus/* $(SHARE_FOLDER)/doc/ccnode/examples/
+	install -m 644 examples/client.py examples/view.html $(SHARE_FOLDER)/doc/ccnode/examples/
 	install -m 755 packaging/tls/certificates.sh packaging/tls/configuration.sh $(SHARE_FOLDER)/doc/ccnode/examples/tls/
 
 # Makes a Debian package, packaging/out/ccnode_VERSION_ARCHITECTURE.deb, out of the program that `make run` or `make test`
@@ -153,10 +154,21 @@ many-nodes:
 	@python3 tools/many_nodes.py crates/ccnode/out/ccnode $(NODES)
 
 # Measures three nodes of share 1 and of share 32, and three of etcd and of ZooKeeper in the same run, which have to be there
-# (Debian's etcd-server and zookeeper): about four minutes. It fails nothing.
+# (Debian's etcd-server and zookeeper): about five minutes. It fails nothing.
 beside:
 	@$(BUILD) ccnode
 	@python3 tools/beside.py crates/ccnode/out/ccnode
+
+# Measures this program and BEFORE, another one, by turns: rates, waits and processor time with folders in memory and on the
+# disk, 25 minutes. It fails nothing.
+turns:
+	@$(BUILD) ccnode
+	@python3 tools/turns.py crates/ccnode/out/ccnode $(BEFORE)
+
+# Prints the way of one store through three nodes, call by call. It needs a C compiler, and fails nothing.
+hops:
+	@$(BUILD) ccnode
+	@python3 tools/hops.py crates/ccnode/out/ccnode
 
 # Kills nodes of a cluster under load 200 times with SIGKILL, starts each again, and checks what clients are told: about
 # three minutes. KILLS=20 does fewer, AWAY=20 has a killed node wait for up to so many seconds.
@@ -221,7 +233,8 @@ mutated-hellos:
 	@$(BUILD) ccnode
 	@python3 tools/mutated_hellos.py crates/ccnode/out/ccnode
 
-# Asks nodes over HTTP as the pages say that one may, by a million mutated requests, without a quorum and under kills.
+# Asks nodes over HTTP as the pages say that one may, at each limit of a connection, by a million mutated requests, without a
+# quorum and under kills.
 http-clients:
 	@$(BUILD) ccnode
 	@python3 tools/http_clients.py crates/ccnode/out/ccnode
@@ -267,7 +280,7 @@ hostile:
 	@$(BUILD) ccnode
 	@python3 tools/hostile.py crates/ccnode/out/ccnode
 
-# Runs three nodes on loopback with status pages, and prints where these are: until Ctrl-C.
+# Runs three nodes on loopback with status pages and addresses for HTTP, and prints where these are: until Ctrl-C.
 look:
 	@$(BUILD) ccnode
 	@python3 tools/look.py crates/ccnode/out/ccnode

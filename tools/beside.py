@@ -4,16 +4,20 @@ one disk in one run, under 1, 8, 64 and 192 clients. It fails nothing.
 
     beside.py crates/ccnode/out/ccnode [SECONDS]
 
-It needs Debian's etcd-server and zookeeper. Each client has a connection of its own, spread over the nodes, and asks again
-as soon as it was answered: a write of 15 bytes, and then a read that has all that was written before, for SECONDS (5)
-each. That is a collect of all nodes here, a linearizable get of etcd, and of ZooKeeper a sync and a get behind it. All
+It needs Debian's etcd-server and zookeeper. All four run from the begin to the end, and take turns: of each number of
+clients and each kind there are three rounds, each begun by another one, of SECONDS (3) each, and a row has the median
+round. Loops measure the disk's own sync before each number of clients. Each client has a connection of its own, spread
+over the nodes, and asks again as soon as it was answered: a write of 15 bytes, or a read that has all that was written
+before. That is a collect of all nodes here, a linearizable get of etcd, and of ZooKeeper a sync and a get behind it. All
 wait for their disks; etcd and ZooKeeper run as they come, and nodes are formatted with beta 2/3, so that each waits for two
 of three. TMPDIR says where the folders are made.
 """
+import contextlib
 import os
 import pathlib
 import shutil
 import socket
+import statistics
 import struct
 import subprocess
 import sys
@@ -25,6 +29,8 @@ from nodes import LOOPBACK, Cluster, end_on_signals, free_ports, processor_secon
 
 KEY, VALUE = b"/load", b"load-0123456789"
 SECONDS_TO_START = 30
+ROUNDS = 3
+COLUMNS = "clients  kind         a s       p50       p99  processor   (microseconds; all three servers)"
 JARS = "/usr/share/java/*"
 
 
@@ -209,11 +215,13 @@ class Servers:
 class Nodes:
     """Three nodes, as the other servers are asked."""
 
-    def __init__(self, program, share):
-        self.cluster, self.session = Cluster(program, 3, beta="2/3", share=share), 0
+    def __init__(self, program, share, pause=0):
+        self.cluster, self.session = Cluster(program, 3, beta="2/3", share=share, name=""), 0
+        self.pause = pause
 
     def __enter__(self):
         self.cluster.__enter__()
+        self.cluster.slow_down(self.pause)
         self.cluster.start_all()
         return self
 
@@ -233,6 +241,7 @@ class Nodes:
 
 
 def measure(servers, count, kind, seconds):
+    """Answers a second, their median and 99th percentile, what the servers spent on each, and how often they refused."""
     askers = [servers.asker(number, kind) for number in range(count)]
     before = servers.processor_seconds()
     took, passed = run_clients(askers, seconds)
@@ -240,27 +249,56 @@ def measure(servers, count, kind, seconds):
     for asker in askers:
         asker.socket.close()
     refusals = sum(asker.refusals for asker in askers)
+    return len(took) / passed, percentile(took, 0.5), percentile(took, 0.99), spent / max(1, len(took)) * 1e6, refusals
+
+
+def take_turns(systems, count, kind, seconds, rounds=ROUNDS):
+    """What each system did in each round; in each another one begins."""
+    names = list(systems)
+    found = {name: [] for name in names}
+    for number in range(rounds):
+        first = number % len(names)
+        for name in names[first:] + names[:first]:
+            found[name].append(measure(systems[name], count, kind, seconds))
+    return found
+
+
+def print_row(name, count, kind, rounds):
+    """The medians of the rounds."""
+    rate, p50, p99, processor, _ = map(statistics.median, zip(*rounds))
+    refusals = sum(measured[-1] for measured in rounds)
     note = f"   {refusals} refused" if refusals else ""
-    say(f"{count:>7}  {kind:<6}{len(took) / passed:>10.0f}{percentile(took, 0.5):>10.0f}{percentile(took, 0.99):>10.0f}"
-        f"{spent / max(1, len(took)) * 1e6:>11.0f}{note}")
+    say(f"{count:>7}  {kind:<6}{rate:>10.0f}{p50:>10.0f}{p99:>10.0f}{processor:>11.0f}   {name}{note}")
+
+
+def print_syncs():
+    with tempfile.TemporaryDirectory() as folder:
+        alone, three = sync_times(folder, 0)
+    say(f"a write with its sync: {alone:.0f} us alone, {three:.0f} us as one of three loops")
+
+
+def enter_all(stack, systems):
+    """Starts all, which end with that stack."""
+    started = {name: stack.enter_context(made) for name, made in systems.items()}
+    for servers in started.values():
+        servers.wait_until_ready()
+    return started
 
 
 def main():
     end_on_signals()
-    program, seconds = sys.argv[1], float(sys.argv[2]) if len(sys.argv) > 2 else 5.0
-    kinds = [("ccnode, share 1", Nodes(program, 1)), ("ccnode, share 32", Nodes(program, 32)),
-             ("etcd", Servers("etcd")), ("ZooKeeper", Servers("zookeeper"))]
+    program, seconds = sys.argv[1], float(sys.argv[2]) if len(sys.argv) > 2 else 3.0
+    systems = {"ccnode, share 1": Nodes(program, 1), "ccnode, share 32": Nodes(program, 32),
+               "etcd": Servers("etcd"), "ZooKeeper": Servers("zookeeper")}
     say(f"machine load before: {os.getloadavg()[0]:.2f}")
-    for name, made in kinds:
-        with made as servers:
-            servers.wait_until_ready()
-            with tempfile.TemporaryDirectory() as folder:
-                alone, three = sync_times(folder, 0)
-            say(f"{name}; a write with its sync: {alone:.0f} us alone, {three:.0f} us as one of three loops")
-            say("clients  kind         a s       p50       p99  processor   (microseconds; all three servers)")
-            for count in COUNTS:
-                for kind in ("write", "read"):
-                    measure(servers, count, kind, seconds)
+    with contextlib.ExitStack() as stack:
+        started = enter_all(stack, systems)
+        for count in COUNTS:
+            print_syncs()
+            say(COLUMNS)
+            for kind in ("write", "read"):
+                for name, rounds in take_turns(started, count, kind, seconds).items():
+                    print_row(name, count, kind, rounds)
 
 
 if __name__ == "__main__":

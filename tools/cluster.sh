@@ -28,9 +28,14 @@ peers() {
     echo "$list"
 }
 
+# Where a node takes requests over HTTP.
+web() {
+    echo "127.0.0.1:$((ports[$1] + 1000))"
+}
+
 start() {
-    echo "\$ ccnode run node-$1 --listen $(address "$1") --peers $(peers "$1") &"
-    "$ccnode" run "node-$1" --listen "$(address "$1")" --peers "$(peers "$1")" 2>> "log-$1" &
+    echo "\$ ccnode run node-$1 --listen $(address "$1") --http $(web "$1") --peers $(peers "$1") &"
+    "$ccnode" run "node-$1" --listen "$(address "$1")" --http "$(web "$1")" --peers "$(peers "$1")" 2>> "log-$1" &
     pids[$1]=$!
     disown
 }
@@ -53,6 +58,11 @@ for node in 1 2 3; do
     say ask "$(address "$node")" "$((10 + node))" store "from-$node"
 done
 say ask "$(address 1)" 11 collect
+if command -v curl > "$folder/found"; then
+    echo "\$ curl http://$(web 3)/v1/view"
+    curl -sS "http://$(web 3)/v1/view"
+    echo
+fi
 echo "\$ kill -9 (node 3)"
 kill -9 "${pids[3]}"
 pids[3]=0

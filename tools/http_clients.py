@@ -4,10 +4,11 @@
     http_clients.py crates/ccnode/out/ccnode [COUNT [SEED]]
 
 Three nodes, of which two have to answer. The `curl` lines of docs/RUN.md print what the page says. Each request of
-docs/openapi.yaml is sent, and each answer is one that it describes. COUNT mutated requests (1,000,000) end no node and change
-nothing. With two nodes dead requests end with 504 and their sessions go on a second after the nodes are back. And while the node
-is killed and started again, writes with a key are done once each, and those without a key once at most. The status is 1 where
-something isn't so."""
+docs/openapi.yaml is sent, and each answer is one that it describes. A stream of changes tells each write of another node.
+Each limit of a connection is taken to its edge (http_limits.py). COUNT mutated requests (1,000,000) end no node and change
+nothing. With two nodes dead requests end with 504 and their sessions go on a second after the nodes are back. And while
+the node is killed and started again, writes with a key are done once each, and those without a key once at most. The
+status is 1 where something isn't so."""
 import http.client
 import json
 import pathlib
@@ -20,6 +21,7 @@ import sys
 import threading
 import time
 
+import http_limits
 from nodes import HERE, LOOPBACK, Cluster, Verdicts, end_on_signals, free_ports, say
 
 PAGE, OPENAPI = HERE.parent / "docs" / "RUN.md", HERE.parent / "docs" / "openapi.yaml"
@@ -113,7 +115,7 @@ def described(document, path, method, told):
     if not response or kind not in response.get("content", {}):
         return False
     schema = (response["content"][kind] or {}).get("schema")
-    return schema is None or fits(schema, json.loads(body), document)
+    return schema is None or not kind.endswith("json") or fits(schema, json.loads(body), document)
 
 
 def send_all(verdicts, cluster):
@@ -128,6 +130,9 @@ def send_all(verdicts, cluster):
               ("/v1/text", "put", "/v1/text", "a", {"Sec-Fetch-Site": "cross-site"}),
               ("/v1/text", "put", "/v1/text", "a", {"Idempotency-Key": "7/9"}),
               ("/v1/max", "put", "/v1/max?timeout=1", "7", {}), ("/v1/", "get", "/v1/", None, {"Accept": "text/html"})]
+    asked += [(path, "get", path.replace("{session}", "7") + query, None, fields)
+              for path, methods in document["paths"].items() if "get" in methods
+              for query, fields in (("?timeout=1", {}), ("", {"Idempotency-Key": "7/9"}))]
     for path, method, target, body, fields in asked:
         told = client.ask(method.upper(), target, body, fields)
         verdicts.add(described(document, path, method, told), f"{method} {target} {fields}: {told[0]}, as the page says")
@@ -251,6 +256,44 @@ def write_without(port, counts, stop):
     client.close()
 
 
+def event_in(told):
+    """The id and the view of the event that a response has, if it has one."""
+    lines = dict(line.split(": ", 1) for line in told[2].decode().splitlines() if ": " in line)
+    return (lines["id"], json.loads(lines["data"])) if "data" in lines else (None, None)
+
+
+def write_later(port, text, answered):
+    time.sleep(0.4)
+    client = Client(port)
+    if client.ask("PUT", "/v1/text", text)[0] == 200:
+        answered.append(time.monotonic())
+    client.close()
+
+
+def follow_changes(verdicts, cluster, writes=10):
+    """A stream tells what stands, then each write of another node within a second, and nothing where none comes."""
+    reader, slowest = Client(cluster.web[1]), 0.0
+    last, view = event_in(reader.ask("GET", "/v1/changes"))
+    stores = sum(int(row["number"]) for row in view["rows"])
+    verdicts.add(last == str(stores), f"the first event has what stands, {stores} stores")
+    for number in range(writes):
+        answered = []
+        writer = threading.Thread(target=write_later, args=(cluster.web[2], f"change-{number}", answered))
+        writer.start()
+        last, view = event_in(reader.ask("GET", "/v1/changes", None, {"Last-Event-ID": last}))
+        heard = time.monotonic()
+        writer.join()
+        slowest = max(slowest, heard - answered[0])
+        texts = {row["node"]: row.get("text") for row in (view or {"rows": []})["rows"]}
+        if texts.get(2) != f"change-{number}":
+            verdicts.add(False, f"an event lacks a write: {texts}")
+            break
+    verdicts.add(slowest < 1, f"each of {writes} writes was told, {slowest:.2f} s after its answer at most")
+    told = reader.ask("GET", "/v1/changes?timeout=1s", None, {"Last-Event-ID": last})
+    verdicts.add(told[0] == 200 and event_in(told) == (None, None), "where nothing changes there is no event")
+    reader.close()
+
+
 def kill_often(verdicts, cluster, kills=20):
     stop, counts, done = threading.Event(), [0, 0], [[] for _ in range(4)]
     before = int((row_of(Client(cluster.web[1]), 1) or {"number": "0"})["number"])
@@ -283,11 +326,15 @@ def main(words):
     with WebCluster(words[0], 3, beta="2/3", share=32) as cluster:
         cluster.start_all()
         cluster.wait_until_ready()
+        idle = http_limits.Idle(cluster.web[2])
         run_lines(verdicts, cluster)
         send_all(verdicts, cluster)
+        follow_changes(verdicts, cluster)
+        http_limits.take_limits(verdicts, cluster.web[1])
+        mutate_all(verdicts, cluster, count, seed)
+        idle.judge(verdicts)
         lose_quorum(verdicts, cluster)
         kill_often(verdicts, cluster)
-        mutate_all(verdicts, cluster, count, seed)
     return 0 if verdicts.is_good else 1
 
 

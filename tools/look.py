@@ -1,6 +1,6 @@
 #!/usr/bin/env python3
-"""Runs three nodes on loopback, each with a status page, stores a few values, and prints where the pages are: look.py
-PROGRAM
+"""Runs three nodes on loopback, each with a status page and an address for HTTP, stores a few values, and prints where all of
+that is: look.py PROGRAM
 
 It runs until Ctrl-C, and ends all that it started.
 """
@@ -42,6 +42,19 @@ class WatchedCluster(nodes.Cluster):
             return json.load(answer)
 
 
+class ServingCluster(WatchedCluster):
+    """A cluster each of whose nodes takes requests over HTTP too."""
+
+    def __init__(self, program, count, **settings):
+        super().__init__(program, count, **settings)
+        # All ports are chosen together, so that none is given twice.
+        ports = nodes.free_ports(3 * count)
+        self.ports, self.pages, self.web = (dict(zip(self.nodes, ports[place::3])) for place in range(3))
+
+    def run_words(self, node):
+        return [*super().run_words(node), "--http", f"{LOOPBACK}:{self.web[node]}"]
+
+
 def store_values(cluster):
     for place, (node, words) in enumerate(VALUES):
         session = nodes.Session(cluster.address(node), 50 + place)
@@ -50,12 +63,13 @@ def store_values(cluster):
 
 
 def main(program):
-    with WatchedCluster(program, 3, beta="2/3") as cluster:
+    with ServingCluster(program, 3, beta="2/3") as cluster:
         cluster.start_all()
         cluster.wait_until_ready()
         store_values(cluster)
         for node in cluster.nodes:
             say(f"node {node}: http://{LOOPBACK}:{cluster.pages[node]}/ and clients at {cluster.address(node)}")
+            say(f"        curl http://{LOOPBACK}:{cluster.web[node]}/v1/view")
         say("Ctrl-C ends all three")
         while not cluster.has_ended():
             time.sleep(1)

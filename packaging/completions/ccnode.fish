@@ -32,7 +32,7 @@ complete -c ccnode -n '__fish_seen_subcommand_from run' -l peers-file -r -d 'A f
 complete -c ccnode -n '__fish_seen_subcommand_from run' -l status -x -d 'Where it shows itself over HTTP'
 complete -c ccnode -n '__fish_seen_subcommand_from run' -l http -x -d 'Where clients ask that speak HTTP'
 complete -c ccnode -n '__fish_seen_subcommand_from run' -l http-sessions -x -d 'How many sessions it uses for those without a key'
-complete -c ccnode -n '__fish_seen_subcommand_from run' -l http-origin -x -d 'Whose pages may write over HTTP'
+complete -c ccnode -n '__fish_seen_subcommand_from run' -l http-origin -x -d 'Whose pages may write and read over HTTP'
 complete -c ccnode -n '__fish_seen_subcommand_from run' -l log -x -a 'error warn info debug' -d 'How much it notes'
 complete -c ccnode -n '__fish_seen_subcommand_from retire' -l peers-file -r -d 'A file of peers, each of which is told'
 complete -c ccnode -n '__fish_seen_subcommand_from retire' -l alive -d 'Retire it though it was heard a moment ago'
