@@ -4,13 +4,13 @@ one disk in one run, under 1, 8, 64 and 192 clients. It fails nothing.
 
     beside.py crates/ccnode/out/ccnode [SECONDS]
 
-It needs Debian's etcd-server and zookeeper. All four run from the begin to the end, and take turns: of each number of
-clients and each kind there are three rounds, each begun by another one, of SECONDS (3) each, and a row has the median
-round. Loops measure the disk's own sync before each number of clients. Each client has a connection of its own, spread
-over the nodes, and asks again as soon as it was answered: a write of 15 bytes, or a read that has all that was written
-before. That is a collect of all nodes here, a linearizable get of etcd, and of ZooKeeper a sync and a get behind it. All
-wait for their disks; etcd and ZooKeeper run as they come, and nodes are formatted with beta 2/3, so that each waits for two
-of three. TMPDIR says where the folders are made.
+It needs Debian's etcd-server and zookeeper; one that isn't installed is left out. All run from the begin to the end, and
+take turns: of each number of clients and each kind there are three rounds, each begun by another one, of SECONDS (3)
+each, and a row has the median round. Loops measure the disk's own sync before each number of clients. Each client has a
+connection of its own, spread over the nodes, and asks again as soon as it was answered: a write of 15 bytes, or a read
+that has all that was written before. That is a collect of all nodes here, a linearizable get of etcd, and of ZooKeeper a
+sync and a get behind it. All wait for their disks; etcd and ZooKeeper run as they come, and nodes are formatted with beta
+2/3, so that each waits for two of three. TMPDIR says where the folders are made.
 """
 import contextlib
 import os
@@ -32,6 +32,7 @@ SECONDS_TO_START = 30
 ROUNDS = 3
 COLUMNS = "clients  kind         a s       p50       p99  processor   (microseconds; all three servers)"
 JARS = "/usr/share/java/*"
+ZOOKEEPER = "/usr/share/java/zookeeper.jar"
 
 
 class Connection:
@@ -216,8 +217,9 @@ class Nodes:
     """Three nodes, as the other servers are asked."""
 
     def __init__(self, program, share, pause=0):
-        self.cluster, self.session = Cluster(program, 3, beta="2/3", share=share, name=""), 0
-        self.pause = pause
+        self.cluster, self.pause = Cluster(program, 3, beta="2/3", share=share, name=""), pause
+        # Who used each session last: a node serves 256 in its life, so the next client goes on behind that one.
+        self.askers = {}
 
     def __enter__(self):
         self.cluster.__enter__()
@@ -232,9 +234,11 @@ class Nodes:
         self.cluster.wait_until_ready()
 
     def asker(self, number, kind):
-        self.session += 1
-        words = {"write": ["store", VALUE.decode()], "read": ["collect"]}[kind]
-        return Asker(self.cluster.address(1 + number % 3), self.session, words)
+        words, session = {"write": ["store", VALUE.decode()], "read": ["collect"]}[kind], number + 1
+        asker, before = Asker(self.cluster.address(1 + number % 3), session, words), self.askers.get(session)
+        asker.request = before.request if before else 0
+        self.askers[session] = asker
+        return asker
 
     def processor_seconds(self):
         return self.cluster.processor_seconds()
@@ -288,8 +292,11 @@ def enter_all(stack, systems):
 def main():
     end_on_signals()
     program, seconds = sys.argv[1], float(sys.argv[2]) if len(sys.argv) > 2 else 3.0
-    systems = {"ccnode, share 1": Nodes(program, 1), "ccnode, share 32": Nodes(program, 32),
-               "etcd": Servers("etcd"), "ZooKeeper": Servers("zookeeper")}
+    systems = {"ccnode, share 1": Nodes(program, 1), "ccnode, share 32": Nodes(program, 32)}
+    if shutil.which("etcd"):
+        systems["etcd"] = Servers("etcd")
+    if pathlib.Path(ZOOKEEPER).exists():
+        systems["ZooKeeper"] = Servers("zookeeper")
     say(f"machine load before: {os.getloadavg()[0]:.2f}")
     with contextlib.ExitStack() as stack:
         started = enter_all(stack, systems)
