@@ -11,7 +11,7 @@ LINK = re.compile(r"\[([^\]]*)\]\(([^)#\s]+)(?:#[^)\s]*)?\)")
 
 
 def pages():
-    return ["README.md", *sorted(glob.glob("docs/*.md")), *sorted(glob.glob("crates/*/README.md"))]
+    return ["README.md", *sorted(glob.glob("docs/*.md")), "crates/README.md", *sorted(glob.glob("crates/*/README.md"))]
 
 
 def missing_in(page):
