@@ -245,8 +245,8 @@ wrong-places:
 	@$(BUILD) ccnode
 	@python3 tools/wrong_places.py crates/ccnode/out/ccnode
 
-# Has 1,400 clients read slowly what a node doesn't listen to any more, and counts its sockets; and has its disk get full
-# meanwhile. Two minutes.
+# Has 30 clients read slowly what a node doesn't listen to any more, beside 1,100 silent ones, and counts its sockets; and
+# has its disk get full meanwhile. Two minutes.
 slow-readers:
 	@$(BUILD) ccnode
 	@python3 tools/slow_readers.py crates/ccnode/out/ccnode
