@@ -22,6 +22,7 @@ import threading
 import time
 
 import http_limits
+import http_rows
 from nodes import HERE, LOOPBACK, Cluster, Verdicts, end_on_signals, free_ports, say
 
 PAGE, OPENAPI = HERE.parent / "docs" / "RUN.md", HERE.parent / "docs" / "openapi.yaml"
@@ -329,6 +330,7 @@ def main(words):
         idle = http_limits.Idle(cluster.web[2])
         run_lines(verdicts, cluster)
         send_all(verdicts, cluster)
+        http_rows.take_rows(verdicts, Client(cluster.web[1]))
         follow_changes(verdicts, cluster)
         http_limits.take_limits(verdicts, cluster.web[1])
         mutate_all(verdicts, cluster, count, seed)
