@@ -18,8 +18,8 @@ from nodes import LOOPBACK
 REQUEST, ANSWER, IDLE = 10.0, 10.0, 60.0
 # How much later a connection may end on a machine that is busy, in seconds.
 GRACE = 3.0
-# How the system writes that a connection is open.
-ESTABLISHED = "01"
+# How the system writes that a connection is open, and that the other side has closed it.
+ESTABLISHED, CLOSE_WAIT = "01", "08"
 # How many connections are served at once; how long a head and a body may be, in bytes; how many fields a head may have.
 PLACES, HEAD, BODY, FIELDS = 256, 8_192, 4_096, 64
 # A client that is served, or turned away, waits no longer than so many seconds.
@@ -336,8 +336,20 @@ def served_within(port, seconds):
     return None
 
 
+def wait_until_left(port):
+    """Waits until no connection of an earlier test holds a place, for as long as one may say nothing."""
+    end = time.monotonic() + IDLE + REQUEST
+    mine = f":{port:04X}"
+    while time.monotonic() < end:
+        lines = pathlib.Path("/proc/net/tcp").read_text().splitlines()
+        if not any(words[1].endswith(mine) and words[3] in (ESTABLISHED, CLOSE_WAIT) for words in map(str.split, lines)):
+            return
+        time.sleep(0.1)
+
+
 def take_places(verdicts, port):
     """So many connections are served, one more is closed without a word, and who leaves makes room."""
+    wait_until_left(port)
     with ExitStack() as stack:
         talks = [stack.enter_context(closing(Talk(port))) for _ in range(PLACES)]
         served = sum(map(is_served, talks))
