@@ -20,7 +20,7 @@ PROGRAM = "ccnode"
 ROW = re.compile(r"^\| `(\w+)` \| ([\d,]+) \| ([\d,]+) \| ([\d,]+) \| ([\d,]+) \|", re.MULTILINE)
 # A crate's proof, its tests, edits and code, and all of these.
 COST = re.compile(r"^\| `(\w+)` \| *(\d*) \| *(\d*) \| *\d* \| *\d* \| (\d+) \|$", re.MULTILINE)
-ALLOWED = re.compile(r"The longest chain may take \*\*([\d,]+) seconds\*\*")
+ALLOWED = re.compile(r"The longest chain to `ccnode` may take \*\*([\d,]+) seconds\*\*")
 MORE = 1.05
 
 # How far sums of rounded seconds may be apart.
