@@ -6,8 +6,8 @@ seconds, that nothing is lost once it is mended, and that an old copy of a folde
 
 Three nodes of the cluster `tools`, of which an operation waits for two, and clients as in kill_cluster.py. Two addresses are
 exchanged in one node's list; a node of another cluster takes a peer's address; a second folder is formatted under an id; a
-copy of a folder is started beside its node, and another once the node has gone on. It takes a minute and a half, and its status
-is 1 where something isn't so."""
+copy of a folder is started beside its node, and another once the node has gone on. In an idle cluster of its own a copy that isn't
+behind is started beside its node. It takes a minute and a half, and its status is 1 where something isn't so."""
 import re
 import shutil
 import subprocess
@@ -158,6 +158,32 @@ def copies(cluster, verdicts):
     cluster.start(3)
 
 
+def doubled(program, verdicts):
+    """A copy of a folder is started beside its node in an idle cluster: neither is behind, and both are told."""
+    with Misled(program, 3, beta="2/3") as cluster:
+        cluster.start_all()
+        cluster.wait_until_ready()
+        cluster.kill(3)
+        shutil.copytree(cluster.folder / "node-3", cluster.folder / "copy-3")
+        (cluster.folder / "copy-3" / "lock").unlink()
+        logs = {name: cluster.folder / f"log-{name}" for name in ("1", "3", "copy")}
+        marks = {name: length(log) for name, log in logs.items()}
+        cluster.start(3)
+        time.sleep(1)
+        port, = free_ports(1)
+        peers = ",".join(f"{node}={cluster.address(node)}" for node in (1, 2))
+        copy = cluster.other("log-copy", ["--listen", f"127.0.0.1:{port}", "--peers", peers], "copy-3")
+        try:
+            both_say(cluster, verdicts, "a copy that isn't behind", [
+                (logs["1"], marks["1"], "is greeted by two processes in turn that are node 3"),
+                (logs["3"], marks["3"], "that another process greets it in turn as node 3"),
+                (logs["copy"], 0, "that another process greets it in turn as node 3"),
+            ])
+        finally:
+            copy.kill()
+            copy.wait()
+
+
 def take_copy(cluster):
     """Copies the folder of node 3, which goes on: the copy is old two seconds later."""
     shutil.copytree(cluster.folder / "node-3", cluster.folder / "copy-3")
@@ -196,6 +222,7 @@ def main():
                 client.session.is_over = True
         verdicts.add(not checked.faults, f"{sum(checked.writes.values())} writes and {checked.collects} collects, "
                      f"{len(checked.faults)} faults")
+    doubled(sys.argv[1], verdicts)
     say("all is so" if verdicts.is_good else "not all is so")
     sys.exit(not verdicts.is_good)
 

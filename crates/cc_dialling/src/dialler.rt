@@ -88,7 +88,7 @@ fn dial<R: Wait + Clock + Log + Net<Stream = TcpStream>>(
             note_met(rt, dialler, end, &stream, address, noted, met);
             // Who waits to ask finds then that the folder is an old copy, if it is.
             first.end(rt);
-            if met == Met::Welcome {
+            if met == Met::Welcome || met == Met::Doubled {
                 let _ = write_over(rt, dialler, end, stream);
                 end.way.disconnect(rt);
             } else {
@@ -115,9 +115,10 @@ fn note_met<R: Wait + Log>(
     met: Met,
 ) {
     match met {
-        Met::Welcome => {
+        Met::Welcome | Met::Doubled => {
             end.way.put_trouble(rt, None);
             noted.connect(rt, address);
+            noted.double(rt, address, met == Met::Doubled);
         }
         Met::OldCopy { heard } => dialler.dialling.find(OldCopy {
             peer: end.peer,

@@ -32,6 +32,8 @@ pub struct Noted {
     refused_at: Option<Address>,
     // How many greetings in a row were without an answer.
     silent: u64,
+    // Another process greets the peer as this node, which is noted.
+    is_doubled: bool,
 }
 
 impl Noted {
@@ -46,6 +48,7 @@ impl Noted {
             refused: None,
             refused_at: None,
             silent: 0,
+            is_doubled: false,
         }
     }
 
@@ -60,6 +63,15 @@ impl Noted {
         self.refused = None;
         self.refused_at = None;
         self.silent = 0;
+    }
+
+    /// The peer has taken the node, and tells whether another process greets it in turn under the same id.
+    pub fn double<R: Log>(&mut self, rt: &R, address: Address, is_doubled: bool) {
+        if is_doubled && !self.is_doubled {
+            let (me, peer) = (self.me.number(), self.peer.number());
+            warn!(rt; target: TARGET, "node {me} hears from node {peer} at {address} that another process greets it in turn as node {me}");
+        }
+        self.is_doubled = is_doubled;
     }
 
     /// The name in the peer's address isn't found.

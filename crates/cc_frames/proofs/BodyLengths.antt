@@ -50,6 +50,7 @@ length-body (frames.Welcome heard) is = omega arith
 length-body (frames.Unwelcome reason node) is = omega (arith, length-unwelcome reason node)
 length-body (frames.RetireIfSilent node) is = omega arith
 length-body (frames.Share share) is = omega arith
+length-body (frames.Doubled heard) is = omega arith
 
 -- and at least its kind
 pub length-body-positive : (f : Frame) → 1 ≤ length (body_spelling f)
@@ -66,3 +67,4 @@ length-body-positive (frames.Welcome heard) = omega arith
 length-body-positive (frames.Unwelcome reason node) = omega arith
 length-body-positive (frames.RetireIfSilent node) = omega arith
 length-body-positive (frames.Share share) = omega arith
+length-body-positive (frames.Doubled heard) = omega arith

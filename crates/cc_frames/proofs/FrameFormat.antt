@@ -7,7 +7,7 @@ use Rattle.std.proofs.lemmas.List.{take_at, drop_at, length-append}
 use Rattle.cc_wire.specs.declared.fault.WireFault.TheVariants.{Short}
 use Rattle.cc_frames.specs.declared.frame.Frame.{Frame}
 use Rattle.cc_frames.specs.declared.frame.Frame.TheVariants.{Post, Ack, Ask, Reply, Refused, Leave, Retire, Skip, Hello, Welcome, Unwelcome}
-use Rattle.cc_frames.specs.declared.frame.Frame.TheVariants.{RetireIfSilent, Share}
+use Rattle.cc_frames.specs.declared.frame.Frame.TheVariants.{RetireIfSilent, Share, Doubled}
 use Rattle.cc_wire.specs.Reading.{◌>>=◌, Reading, via, bytes_at, whole}
 use Rattle.cc_frames.specs.Frames.{replied_spelling, IsReplied, replied_at, refused_spelling, IsRefused, refused_at, body_spelling, frame_spelling}
 use Rattle.cc_frames.specs.Frames.{IsFrame, body_fields, body_at, body_length_at, enclosed_at, frame_at}
@@ -59,7 +59,8 @@ module _ (bytes after : List ℕ) (k : ℕ) (m : Frame) (rest : List ℕ) (fits 
       case unwelcome_spelled (λ f. Unwelcome f.0 f.1) 35 (λ a h. h.1) (λ a. refl) _ (
       case id_spelled (λ node. RetireIfSilent node) 36 (λ a h. h) (λ a. refl) _ (
       case ask_share_spelled (λ share. Share share) 37 (λ a h. h) (λ a. refl) _ (
-      λ e. absurd cc)))))))))))))
+      case u64_spelled (λ heard. Doubled heard) 38 (λ a h. h) (λ a. refl) _ (
+      λ e. absurd cc))))))))))))))
 
 -- what is spelled so is read again
 body_again : (m : Frame) (rest : List ℕ) → IsFrame m → body_at (body_spelling m ++ rest) ≡ Ok (m, rest)
@@ -77,6 +78,7 @@ body_again (Welcome heard) rest is = rw (u64_spelled.again heard rest is) refl
 body_again (Unwelcome reason node) rest is = rw (unwelcome_spelled.again (reason, node) rest (tt, is)) refl
 body_again (RetireIfSilent node) rest is = rw (id_spelled.again node rest is) refl
 body_again (Share share) rest is = rw (ask_share_spelled.again share rest is) refl
+body_again (Doubled heard) rest is = rw (u64_spelled.again heard rest is) refl
 
 pub body_spelled : Spelled body_at IsFrame body_spelling
 unfolding body_at

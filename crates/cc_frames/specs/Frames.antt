@@ -6,7 +6,7 @@ use Rattle.cc_messages.specs.Shares.{IsAskShare}
 use Rattle.cc_messages.specs.declared.answer.Answer.{Answer}
 use Rattle.cc_frames.specs.declared.frame.Frame.{Frame}
 use Rattle.cc_frames.specs.declared.frame.Frame.TheVariants.{Post, Ack, Ask, Reply, Refused, Leave, Retire, Skip, Hello, Welcome, Unwelcome}
-use Rattle.cc_frames.specs.declared.frame.Frame.TheVariants.{RetireIfSilent, Share}
+use Rattle.cc_frames.specs.declared.frame.Frame.TheVariants.{RetireIfSilent, Share, Doubled}
 use Rattle.cc_wire.specs.Reading.{◌>>=◌, Reading, ◌⊗◌, via, nothing_at, byte_at, kinded, bytes_at, number_at, number_from, ask_share_at, limited, whole}
 use Rattle.cc_frames.specs.Limits.{body_limit}
 use Rattle.cc_frames.specs.Hellos.{hello_spelling, IsHello, hello_at, unwelcome_spelling, unwelcome_at}
@@ -52,6 +52,7 @@ body_spelling (Welcome heard) = 34 ∷ to_be_bytes w64 heard
 body_spelling (Unwelcome reason node) = 35 ∷ unwelcome_spelling reason node
 body_spelling (RetireIfSilent node) = 36 ∷ to_be_bytes w32 node
 body_spelling (Share share) = 37 ∷ share ∷ []
+body_spelling (Doubled heard) = 38 ∷ to_be_bytes w64 heard
 
 abbrev pub frame_spelling : Frame → List ℕ
 frame_spelling frame = to_be_bytes w32 (length (body_spelling frame)) ++ body_spelling frame
@@ -70,6 +71,7 @@ IsFrame (Welcome heard) = heard < 2 ^ 64
 IsFrame (Unwelcome reason node) = IsId node
 IsFrame (RetireIfSilent node) = IsId node
 IsFrame (Share share) = IsAskShare share
+IsFrame (Doubled heard) = heard < 2 ^ 64
 
 abbrev pub SpellsFrame : List ℕ → Frame → Type 0
 SpellsFrame = Spells IsFrame frame_spelling
@@ -91,7 +93,8 @@ body_fields kind =
     else (if kind == 35 then via (λ f. Unwelcome f.0 f.1) unwelcome_at
     else (if kind == 36 then via (λ node. RetireIfSilent node) (number_from 1)
     else (if kind == 37 then via (λ share. Share share) ask_share_at
-    else (λ bytes. Err (BadKind kind))))))))))))))
+    else (if kind == 38 then via (λ heard. Doubled heard) (number_at w64)
+    else (λ bytes. Err (BadKind kind)))))))))))))))
 
 unfoldable pub body_at : Reading Frame
 body_at = kinded body_fields

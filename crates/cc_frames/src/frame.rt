@@ -70,6 +70,10 @@ pub enum Frame {
     Welcome {
         heard: u64,
     },
+    /// As `Welcome`. Besides, two processes greet in turn as the node that is taken.
+    Doubled {
+        heard: u64,
+    },
     /// The node that was greeted, the one with this id, doesn't take the other.
     Unwelcome {
         reason: Reason,
@@ -199,6 +203,10 @@ fn read_body_fields(alloc: Global, reader: &mut Reader<'_>, kind: u8) -> Result<
         37 => {
             let share = reader.share()?;
             Ok(Frame::Share { share })
+        }
+        38 => {
+            let heard = reader.u64()?;
+            Ok(Frame::Doubled { heard })
         }
         kind => Err(WireFault::BadKind(kind)),
     }
@@ -375,6 +383,10 @@ fn put_body(out: &mut Vec<u8>, frame: &Frame) -> Result<(), AllocError>
         }
         Frame::Welcome { heard } => {
             put_u8(out, 34)?;
+            put_u64(out, *heard)
+        }
+        Frame::Doubled { heard } => {
+            put_u8(out, 38)?;
             put_u64(out, *heard)
         }
         Frame::Unwelcome { reason, node } => {

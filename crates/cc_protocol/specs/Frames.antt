@@ -29,6 +29,7 @@ event_in (frame.Retire node) = Some (event.Retire node)
 event_in (frame.Skip from posts) = Some (event.Skip from posts)
 event_in (frame.Hello hello) = None
 event_in (frame.Welcome heard) = None
+event_in (frame.Doubled heard) = None
 event_in (frame.Unwelcome reason node) = None
 event_in (frame.RetireIfSilent node) = Some (event.Retire node)
 event_in (frame.Share share) = Some (event.Share share)

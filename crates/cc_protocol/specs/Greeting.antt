@@ -121,7 +121,7 @@ after_greeting me h has_left rows = after_unless (why_unwelcome me h (birth_of h
 -- what the node `me` answers, that has taken in what the other posted up to `heard`
 abbrev pub answer_to : ℕ → ℕ → Greeted → Frame
 answer_to me heard greets.Welcome = frame.Welcome heard
-answer_to me heard greets.Doubled = frame.Welcome heard
+answer_to me heard greets.Doubled = frame.Doubled heard
 answer_to me heard (greets.Unwelcome why) = frame.Unwelcome why me
 
 -- a peer has heard more than was ever posted to it
@@ -149,9 +149,14 @@ hello_of g peer heard = record {
   heard = heard;
 }
 
+-- a peer that has heard more than was posted tells of an old copy, whatever else it tells
+abbrev pub unless_old : Met → ℕ → ℕ → Met
+unless_old m heard posted = if is_old_copy heard posted then meets.OldCopy heard else m
+
 -- what the frame that comes back tells a node that has posted up to `posted` to that peer
 abbrev pub met : ℕ → Frame → Met
-met posted (frame.Welcome heard) = if is_old_copy heard posted then meets.OldCopy heard else meets.Welcome
+met posted (frame.Welcome heard) = unless_old meets.Welcome heard posted
+met posted (frame.Doubled heard) = unless_old meets.Doubled heard posted
 met posted (frame.Unwelcome why node) = meets.Unwelcome why node
 met posted _ = meets.NoAnswer
 

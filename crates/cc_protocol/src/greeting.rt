@@ -4,7 +4,7 @@ ghost use Rattle.std.specs.Prelude.{◌≡◌, [], IfOk, bytes_eq, option_map};
 ghost use Rattle.std.specs.Vec.{vec_capacity};
 ghost use Rattle.cc_protocol.specs.Greeting.{is_same_share, counts_alike, is_other_birth, why_unwelcome, found, birth_of, is_run, is_doubled};
 ghost use Rattle.cc_protocol.specs.Greeting.{row_first, row_next, row_after, other_run_after, others, with_row, welcomed, greeted, after_greeting, answer_to, is_old_copy};
-ghost use Rattle.cc_protocol.specs.Greeting.{greeter_after, hello_of, met, AreRemembered, AreAllRemembered};
+ghost use Rattle.cc_protocol.specs.Greeting.{greeter_after, hello_of, unless_old, met, AreRemembered, AreAllRemembered};
 
 use cc_addresses::ClusterName;
 use cc_frames::{Frame, Hello, Quorum, Reason};
@@ -38,6 +38,8 @@ pub struct Greeter {
 pub enum Met {
     /// It is taken.
     Welcome,
+    /// It is taken. Another process greets that peer under the same id, in turn with it.
+    Doubled,
     /// It is taken, and the peer has taken in its posts up to this number, which it never gave.
     OldCopy { heard: u64 },
     /// The node with this id, which was found there, doesn't take it.
@@ -168,7 +170,8 @@ pub fn answer_to(me: NodeId, heard: u64, greeted: Greeted) -> Frame
     ensures { result ≡ answer_to me heard greeted }
 {
     match greeted {
-        Greeted::Welcome | Greeted::Doubled => Frame::Welcome { heard },
+        Greeted::Welcome => Frame::Welcome { heard },
+        Greeted::Doubled => Frame::Doubled { heard },
         Greeted::Unwelcome(reason) => Frame::Unwelcome { reason, node: me },
     }
 }
@@ -206,13 +209,24 @@ pub fn met_by(answer: &Frame, posted: u64) -> Met
     ensures { result ≡ met posted answer.now }
 {
     match answer {
-        Frame::Welcome { heard } if is_old_copy(*heard, posted) => Met::OldCopy { heard: *heard },
-        Frame::Welcome { .. } => Met::Welcome,
+        Frame::Welcome { heard } => unless_old(Met::Welcome, *heard, posted),
+        Frame::Doubled { heard } => unless_old(Met::Doubled, *heard, posted),
         Frame::Unwelcome { reason, node } => Met::Unwelcome {
             reason: *reason,
             node: *node,
         },
         _ => Met::NoAnswer,
+    }
+}
+
+// What came of a greeting that is welcomed, unless the node's folder is an old copy.
+fn unless_old(met: Met, heard: u64, posted: u64) -> Met
+    ensures { result ≡ unless_old met heard posted }
+{
+    if is_old_copy(heard, posted) {
+        Met::OldCopy { heard }
+    } else {
+        met
     }
 }
 

@@ -7,8 +7,17 @@ use std::alloc::Global;
 use std::collections::BTreeMap;
 use std::sync::{Mutex, OnceLock, Wait};
 
-// Of how many nodes it is known at most why they weren't taken.
+// Of how many nodes it is known at most what was noted.
 const MOST_NOTED: usize = 256;
+
+// What was noted of a node's greetings.
+#[derive(Clone, Copy, PartialEq, Eq)]
+enum Remark {
+    // It isn't taken, for that reason.
+    Refused(Reason),
+    // Two processes greet in turn under its id.
+    Doubled,
+}
 
 /// Which nodes are taken that greet, and which weren't.
 #[derive(Drop)]
@@ -18,8 +27,8 @@ pub struct Reception {
     greetings: Mutex<Greetings>,
     // The nodes that have left, by their numbers, as far as the disk tells.
     left: Mutex<BTreeMap<u32, ()>>,
-    // Why nodes weren't taken, by their numbers, as it was noted.
-    noted: Mutex<BTreeMap<u32, Reason>>,
+    // What was noted last of nodes, by their numbers.
+    noted: Mutex<BTreeMap<u32, Remark>>,
 }
 
 impl Reception {
@@ -58,18 +67,28 @@ impl Reception {
 
     /// A node wasn't taken for that reason. Whether it is to be noted: it wasn't noted since it was taken last.
     pub fn refuse<R: Wait>(&self, rt: &R, node: NodeId, reason: Reason) -> bool {
+        self.is_news(rt, node, Remark::Refused(reason))
+    }
+
+    /// A node was taken, as whose id two processes greet in turn. Whether it is to be noted, as above.
+    pub fn double<R: Wait>(&self, rt: &R, node: NodeId) -> bool {
+        self.is_news(rt, node, Remark::Doubled)
+    }
+
+    // Whether that wasn't the last that was noted of a node. It is from now on.
+    fn is_news<R: Wait>(&self, rt: &R, node: NodeId, remark: Remark) -> bool {
         let mut noted = self.noted.lock(rt);
-        if noted.get(&node.number()) == Some(&reason) {
+        if noted.get(&node.number()) == Some(&remark) {
             return false;
         }
         if noted.len() >= MOST_NOTED {
             noted.clear();
         }
-        drop(noted.insert(node.number(), reason));
+        drop(noted.insert(node.number(), remark));
         true
     }
 
-    /// A node was taken.
+    /// A node was taken, as whose id one process greets.
     pub fn take<R: Wait>(&self, rt: &R, node: NodeId) {
         drop(self.noted.lock(rt).remove(&node.number()));
     }

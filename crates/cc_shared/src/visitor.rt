@@ -26,17 +26,13 @@ impl Visitor<'_> {
     /// greeted at its own address before anything is taken.
     pub fn note<R: Wait + Log>(&self, rt: &R, hello: &Hello, greeted: Greeted) -> Option<u64> {
         match greeted {
-            Greeted::Welcome => {}
-            Greeted::Doubled => {
-                let notice = Notice::Doubled(hello.from, self.from);
-                give_notice(rt, self.me, &notice);
-            }
+            Greeted::Welcome => self.shared.reception.take(rt, hello.from),
+            Greeted::Doubled => self.double(rt, hello.from),
             Greeted::Unwelcome(reason) => {
                 self.refuse(rt, hello, reason);
                 return Some(0);
             }
         }
-        self.shared.reception.take(rt, hello.from);
         let Some(channel) = self.shared.channel_to(hello.from) else {
             return Some(0);
         };
@@ -46,6 +42,14 @@ impl Visitor<'_> {
             return None;
         }
         Some(channel.marks().heard())
+    }
+
+    // Notes that two processes greet in turn as a node, unless that was noted.
+    fn double<R: Wait + Log>(&self, rt: &R, node: NodeId) {
+        if self.shared.reception.double(rt, node) {
+            let notice = Notice::Doubled(node, self.from);
+            give_notice(rt, self.me, &notice);
+        }
     }
 
     // Notes that the node isn't taken that greets, unless that was noted.

@@ -63,3 +63,9 @@ returns-in_ok-put_u8-in-Unwelcome-clause-writes c =
     subst (λ (f : Frame). Writes c.args.out.now c.put_unwelcome.new.out (body_spelling f) c.put_unwelcome.result) (sym c.in-Unwelcome.is)
     (writes_then c.args.out.now c.put_u8-in-Unwelcome.new.out c.put_unwelcome.new.out (35 ∷ []) _ c.put_unwelcome.result
     c.in_ok-put_u8-in-Unwelcome.ensures c.put_unwelcome.ensures.writes)
+
+pub returns-in_ok-put_u8-in-Doubled-clause-writes : goal.returns-in_ok-put_u8-in-Doubled-clause-writes
+returns-in_ok-put_u8-in-Doubled-clause-writes c =
+    subst (λ (f : Frame). Writes c.args.out.now c.put_u64-in-Doubled.new.out (body_spelling f) c.put_u64-in-Doubled.result) (sym c.in-Doubled.is)
+    (writes_then c.args.out.now c.put_u8-in-Doubled.new.out c.put_u64-in-Doubled.new.out (38 ∷ []) _ c.put_u64-in-Doubled.result
+    c.in_ok-put_u8-in-Doubled.ensures c.put_u64-in-Doubled.ensures)
