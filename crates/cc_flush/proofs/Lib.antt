@@ -8,6 +8,7 @@ mod OneNode
 mod NodeOrFault
 mod Reopened
 mod ArmingAgain
+mod OpeningAnew
 pub mod Advancing
 pub mod MovingRuns
 mod Lengths

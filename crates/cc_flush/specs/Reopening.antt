@@ -7,10 +7,13 @@
 --     LeadsToSite         these events led to what the sides hold, the durable ones of them whatever a crash leaves now
 --     StaysDurable        from every history that led to a run of calls on, each moment of it is good, and so is the one after it
 --     IsReopened          the node after as many events as were found, and all of these are durable
-use Rattle.std.specs.Prelude.{◌≡◌, ◌⊎◌, ◌<◌, ◌≤◌, ℕ, nat_lt, if◌then◌else◌, List, [], ◌∷◌, length, take, Option, Some, None}
+--     ReadsSame           a read of either side gives what it gave
+--     AnyCall             each disk call
+use Rattle.std.specs.Prelude.{⊤, ◌≡◌, ◌⊎◌, ◌<◌, ◌≤◌, ℕ, nat_lt, if◌then◌else◌, List, [], ◌∷◌, length, take, Option, Some, None}
 use Rattle.cc_messages.specs.declared.event.Event.{Event}
 use Rattle.cc_site.specs.declared.site.Site.{Ghosts}
 use Rattle.cc_site.specs.declared.site.Side.{Side}
+use Rattle.cc_site.specs.declared.site.Call.{Call}
 use Rattle.cc_site.specs.declared.site.Side.TheVariants.{A, B}
 use Rattle.cc_site.specs.Sides.{SideState, durable, other, settled, written}
 use Rattle.cc_site.specs.Moments.{Contents}
@@ -25,6 +28,12 @@ use Rattle.cc_checkpoint.specs.Checkpoints.{image_of}
 use Rattle.cc_journal.specs.Journals.{IsGood, IsGoodNow}
 use Rattle.cc_views.specs.Limits.{counter_limit}
 use Rattle.cc_flush.specs.Engine.{Engine}
+
+abbrev pub ReadsSame : Contents → Contents → Type 0
+ReadsSame old new = (side : Side) → new side ≡ old side
+
+abbrev pub AnyCall : Side → Call → Type 0
+AnyCall side call = ⊤
 
 abbrev pub HoldsTwice : Contents → Node → Type 0
 HoldsTwice read node = (side : Side) → (generation : ℕ) × (place : ℕ) × Holds (read side) generation node place

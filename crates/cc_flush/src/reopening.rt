@@ -1,16 +1,20 @@
 //! A node is opened so that nothing of it rests on a sync that failed in an earlier life.
 
-ghost use Rattle.std.specs.Prelude.{ℕ, ◌≡◌, ◌↔◌, ◌≤◌, ◌⊎◌, List, [], ◌∷◌, false, None, IfOk, OnOk, MatchResult};
+ghost use Rattle.std.specs.Prelude.{ℕ, ◌≡◌, ◌↔◌, ◌≤◌, ◌⊎◌, List, [], ◌∷◌, false, None, IfOk, IfErr, OnOk, MatchResult};
 ghost use Rattle.cc_messages.specs.declared.event.Event.{Event};
 ghost use Rattle.cc_site.specs.declared.site.Side.{Side as SideValue};
 ghost use Rattle.cc_site.specs.Sides.{other, settled, written};
+ghost use Rattle.cc_site.specs.Reads.{bytes_of};
+ghost use Rattle.cc_site.specs.Telling.{CountsCalls};
+ghost use Rattle.cc_checkpoint.specs.Faults.{FaultRose};
 ghost use Rattle.cc_views.specs.Limits.{counter_limit};
 ghost use Rattle.cc_node.specs.Node.{Node};
 ghost use Rattle.cc_sides.specs.Sides.{OPEN, IsArmed};
 ghost use Rattle.cc_journal.specs.Journals.{StaysGood};
 ghost use Rattle.cc_flush.specs.Flushing.{LeadsTo};
 ghost use Rattle.cc_flush.specs.Moving.{Moves};
-ghost use Rattle.cc_flush.specs.Reopening.{IsAnew, IsArmedAgain, IsReopened, LeadsToSite, StaysDurable, older_of};
+ghost use Rattle.cc_flush.specs.Opening.{OpenFails};
+ghost use Rattle.cc_flush.specs.Reopening.{AnyCall, IsAnew, IsArmedAgain, IsReopened, LeadsToSite, ReadsSame, StaysDurable, older_of};
 
 use crate::back::Back;
 use crate::flusher::{CheckpointFault, Flusher};
@@ -24,8 +28,8 @@ use std::alloc::Global;
 /// sync once, and shows what was to be written from then on, though the disk hasn't got it; a later sync succeeds and writes
 /// nothing. So what is read may be missing on the disk until it is written once more. At each moment a crash leaves two sides that
 /// stand for the node after a prefix of its events that has the durable ones, also where a life was killed between a write and its
-/// sync; at the end all events that were found are durable. The faults are those of `Flusher::open`, and Device where a call fails
-/// that writes.
+/// sync; at the end all events that were found are durable. NotFormatted, Damaged and Version come where the reading rules name them
+/// for what the sides held, Device exactly where a disk call fails, and NoMemory where a growth is refused.
 pub fn open_anew<S: Site>(alloc: Global, site: S) -> Result<(Flusher<S>, Core), Back<S, OpenFault>>
     ensures anew { S.honest site → IfOk result (λ opened. IsAnew S.Site opened.0) }
     ensures engine { IfOk result (λ opened. (opened.0.failed ≡ None) × (opened.0.owes ≡ false) × (opened.1 ≡ opened.0.twin.core)) }
@@ -35,11 +39,17 @@ pub fn open_anew<S: Site>(alloc: Global, site: S) -> Result<(Flusher<S>, Core), 
     ensures good { S.honest site → MatchResult result (λ opened. StaysDurable S.Site site opened.0.site) (λ b. StaysDurable S.Site site b.site) }
     ensures node { S.honest site → (start : Node) (events : List Event) (durable opening : ℕ) → LeadsToSite S.Site site start events durable opening
         → IfOk result (λ opened. IsReopened S.Site opened.0 start events durable opening) }
+    ensures faults { S.honest site → IfErr result (λ b. OpenFails (bytes_of S.Site site) b.fault) }
+    ensures count { MatchResult result (λ opened. S.failures opened.0.site ≡ S.failures site)
+        (λ b. FaultRose AnyCall (S.failures site) (S.failures b.site) b.fault) }
 {
     one_node();
     let mut site = site;
     if let Err(fault) = arm_again(&mut site) {
-        return Err(Back { site, fault });
+        return Err(Back {
+            site,
+            fault: OpenFault::Device(fault),
+        });
     }
     let (mut engine, core) = match Flusher::open(alloc, site) {
         Ok(opened) => opened,
@@ -68,6 +78,7 @@ fn write_anew<S: Site>(engine: &mut Flusher<S>) -> Result<(), DeviceFault>
     ensures honest { S.honest engine.old.site ↔ S.honest engine.new.site }
     ensures outlet { (S.tells engine.old.site ↔ S.tells engine.new.site) × (S.sent engine.new.site ≡ S.sent engine.old.site) }
     ensures good { S.honest engine.old.site → StaysGood S.Site (LeadsTo S.Site engine.old) engine.old.site engine.new.site }
+    ensures count { CountsCalls AnyCall (S.failures engine.old.site) (S.failures engine.new.site) result }
 {
     match engine.checkpoint() {
         Ok(()) | Err(CheckpointFault::Spent) => Ok(()),
@@ -77,11 +88,13 @@ fn write_anew<S: Site>(engine: &mut Flusher<S>) -> Result<(), DeviceFault>
 
 // Where both sides are armed, a move ended at the sync that arms the newer one, or right behind it. That gate may be missing on
 // the disk, and the next move begins by closing the older side: so the gate is written once more.
-fn arm_again<S: Site>(site: &mut S) -> Result<(), OpenFault>
+fn arm_again<S: Site>(site: &mut S) -> Result<(), DeviceFault>
     ensures honest { S.honest site.old ↔ S.honest site.new }
     ensures outlet { (S.tells site.old ↔ S.tells site.new) × (S.sent site.new ≡ S.sent site.old) }
     ensures good { S.honest site.old → StaysDurable S.Site site.old site.new }
     ensures armed { S.honest site.old → OnOk result (IsArmedAgain (S.state site.old) (S.state site.new)) }
+    ensures same { S.honest site.old → OnOk result (ReadsSame (bytes_of S.Site site.old) (bytes_of S.Site site.new)) }
+    ensures count { CountsCalls AnyCall (S.failures site.old) (S.failures site.new) result }
 {
     let first = peek(site, Side::A)?;
     let second = peek(site, Side::B)?;
@@ -111,6 +124,9 @@ fn write_gate_again<S: Site>(site: &mut S, older: Side) -> Result<(), DeviceFaul
         → StaysDurable S.Site site.old site.new }
     ensures written { S.honest site.old
         → OnOk result (S.state site.new (other older) ≡ settled (written (S.state site.old (other older)) 0 (OPEN ∷ []))) }
+    ensures same { S.honest site.old → ((side : SideValue) → IsArmed (S.state site.old side).bytes)
+        → OnOk result (ReadsSame (bytes_of S.Site site.old) (bytes_of S.Site site.new)) }
+    ensures count { CountsCalls AnyCall (S.failures site.old) (S.failures site.new) result }
 {
     site.sync(older)?;
     write_durably(site, older.other(), 0, &[OPEN_GATE])

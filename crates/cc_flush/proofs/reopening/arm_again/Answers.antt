@@ -1,6 +1,7 @@
 use Rattle.std.proofs.Common.{◌∙◌, sym}
 use Rattle.cc_site.specs.Reads.{reads_then}
 use Rattle.cc_flush.proofs.ArmingAgain.{reads_stay, looked_stays}
+use Rattle.cc_flush.proofs.OpeningAnew.{only_reads_same, looked_reads_same}
 use Rattle.cc_flush.proofs.reopening.arm_again.Goals as goal
 
 pub returns-in_err-first-clause-good : goal.returns-in_err-first-clause-good
@@ -50,3 +51,17 @@ returns-in_ok-write_gate_again-clause-good g c h =
     (met.counts_now new (c.write_gate_again.ensures.honest.0 (two.keeps_honesty.0 h1))) one two
     c.in_ok-first.first c.in_ok-second.second c.in-Some.older (c.in_ok-first.ensures.exact h) (c.in_ok-second.ensures.exact h1)
     (sym c.in-Some.is ∙ c.older_of.ensures) c.write_gate_again.ensures.good
+
+pub returns-in_default-clause-same : goal.returns-in_default-clause-same
+returns-in_default-clause-same g c h =
+    only_reads_same g.S.Site c.args.site.now c.peek-2.new.site h
+    (reads_then g.S.Site c.args.site.now c.peek.new.site c.peek-2.new.site c.peek.ensures.reads c.peek-2.ensures.reads)
+
+pub returns-in_ok-write_gate_again-clause-same : goal.returns-in_ok-write_gate_again-clause-same
+returns-in_ok-write_gate_again-clause-same g c h =
+    let one = c.peek.ensures.reads in
+    let two = c.peek-2.ensures.reads in
+    let h1 = one.keeps_honesty.0 h in
+    looked_reads_same g.S.Site c.args.site.now c.peek.new.site c.peek-2.new.site c.write_gate_again.new.site h one two
+    c.in_ok-first.first c.in_ok-second.second c.in-Some.older (c.in_ok-first.ensures.exact h) (c.in_ok-second.ensures.exact h1)
+    (sym c.in-Some.is ∙ c.older_of.ensures) c.in_ok-write_gate_again.ensures.same

@@ -2,6 +2,8 @@ use Rattle.std.proofs.Common.{sym, subst}
 use Rattle.cc_flush.proofs.ArmingAgain.{opened_stays, moved_found, moved_stays}
 use Rattle.cc_flush.proofs.Reopened.{anew_after}
 use Rattle.cc_flush.specs.Reopening.{StaysDurable}
+use Rattle.cc_site.specs.Reads.{bytes_of}
+use Rattle.cc_flush.proofs.OpeningAnew.{fails_alike}
 use Rattle.cc_flush.proofs.reopening.open_anew.Goals as goal
 
 pub returns-in-Ok-write_anew-clause-anew : goal.returns-in-Ok-write_anew-clause-anew
@@ -57,3 +59,8 @@ returns-in-Err-write_anew-clause-good g c h =
     (c.in-Ok.ensures.stands found) c.write_anew.new.engine
     (opened_stays g.S.Site c.args.site mid e.site first (c.in-Ok.ensures.every_moment found) (met.counts_now e.site kept))
     c.write_anew.ensures.twin (c.write_anew.ensures.good kept))
+
+pub returns-in-Err-open-clause-faults : goal.returns-in-Err-open-clause-faults
+returns-in-Err-open-clause-faults g c h =
+    fails_alike (bytes_of g.S.Site c.args.site) (bytes_of g.S.Site c.arm_again.new.site) (c.in_default.ensures.same h)
+    c.in-Err-open.back.fault (c.in-Err-open.ensures.faults (c.arm_again.ensures.honest.0 h))
