@@ -46,7 +46,8 @@ pub fn flush_all<S: Site, L: Life, Q: Lane, R: Wait + Clock>(
     let shared = watch.shared;
     let me = turner.engine().twin().core().me();
     let mut is_fresh = true;
-    let mut begun = 0;
+    // The node was opened by being written anew.
+    let mut begun = turner.engine().held();
     let mut looks = Looks::new();
     let mut tally = tally_of(turner.engine());
     send_kept(rt, turner, watch)?;
