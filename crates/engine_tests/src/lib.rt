@@ -3,19 +3,11 @@
 #![tactic(auto)]
 
 #[cfg(test)]
-mod acknowledgements;
-#[cfg(test)]
 mod checkpoints;
 #[cfg(test)]
 mod commits;
 #[cfg(test)]
-mod counts;
-#[cfg(test)]
-mod cuts;
-#[cfg(test)]
 mod first_lives;
-#[cfg(test)]
-mod lives;
 #[cfg(test)]
 mod long_states;
 #[cfg(test)]
@@ -29,15 +21,9 @@ mod refusals;
 #[cfg(test)]
 mod reopenings;
 #[cfg(test)]
-mod reshares;
-#[cfg(test)]
-mod shared_rounds;
-#[cfg(test)]
 mod sites;
 #[cfg(test)]
 mod steps;
-#[cfg(test)]
-mod ten_lives;
 #[cfg(test)]
 mod threads;
 #[cfg(test)]

@@ -35,7 +35,11 @@ pub enum Part {
 pub fn first_of<R: Abort + AllocGlobal>(rt: &R, node: &Node, part: Part) -> Event {
     match part {
         Part::Enter => Event::Enter,
-        Part::Ask | Part::Store => ask(),
+        Part::Ask | Part::Store => Event::Ask {
+            session: 7,
+            request: 1,
+            command: Command::Store(Text::new(b"a").unwrap()),
+        },
         Part::Deliveries => delivery(rt, 1, node.outbox().post(1)),
         Part::Collect => Event::Ask {
             session: 7,
@@ -57,23 +61,13 @@ pub fn first_of<R: Abort + AllocGlobal>(rt: &R, node: &Node, part: Part) -> Even
     }
 }
 
-/// A client stores `a` in session 7, as its first request.
-pub fn ask() -> Event {
-    let text = Text::new(b"a").unwrap();
-    Event::Ask {
-        session: 7,
-        request: 1,
-        command: Command::Store(text),
-    }
-}
-
 /// The id of this number, which is at least 1.
 pub fn id(number: u32) -> NodeId {
     NodeId::new(number.max(1)).unwrap()
 }
 
-/// What node 1 sent itself comes over its link.
-pub fn delivery<R: Abort + AllocGlobal>(rt: &R, number: u64, post: Option<&Message>) -> Event {
+// What node 1 sent itself comes over its link.
+fn delivery<R: Abort + AllocGlobal>(rt: &R, number: u64, post: Option<&Message>) -> Event {
     let post = post.expect(rt, "a post");
     let message = post.copy(rt.alloc()).expect(rt, "a copy");
     Event::Deliver {
@@ -81,11 +75,6 @@ pub fn delivery<R: Abort + AllocGlobal>(rt: &R, number: u64, post: Option<&Messa
         number,
         message,
     }
-}
-
-/// The post that the last event of a batch makes.
-pub fn last_post(batch: &Batch) -> Option<&Message> {
-    batch.entries().last()?.made.post.as_ref()
 }
 
 /// The entry of an event that a core takes.
@@ -104,8 +93,8 @@ fn put<R: Abort>(rt: &R, batch: &mut Batch, entry: Entry)
     }
 }
 
-/// Adds an event to a batch that is lawful from a node on, and to the core that the batch leads to.
-pub fn add<R: Abort + AllocGlobal>(
+// Adds an event to a batch that is lawful from a node on, and to the core that the batch leads to.
+fn add<R: Abort + AllocGlobal>(
     rt: &R,
     node: &Node,
     live: &mut Core,
@@ -137,7 +126,8 @@ fn add_delivery<R: Abort + AllocGlobal>(
     ensures live { live.new ≡ (after node.now (events_in batch.new)).core }
     ensures some { 1 ≤ length batch.new }
 {
-    let event = delivery(rt, number, last_post(batch));
+    let last = batch.entries().last().expect(rt, "an entry");
+    let event = delivery(rt, number, last.made.post.as_ref());
     add(rt, node, live, batch, event);
 }
 

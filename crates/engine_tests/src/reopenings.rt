@@ -5,12 +5,12 @@ ghost use Rattle.cc_site.specs.Moments.{CountsFault};
 use crate::parts::{Part, batch_of};
 use crate::sites::MEMBER;
 use cc_checkpoint::OpenFault;
-use cc_flush::{Back, CheckpointFault, Flusher, format, open_anew};
+use cc_flush::{Back, Flusher, format, open_anew};
 use cc_messages::{Answer, Message};
 use cc_site::{Call, DeviceFault, Side, Site};
 use cc_views::NodeId;
-use std::alloc::Global;
 use std::process::Abort;
+use std::test::*;
 
 // A place of a file: what reads show, what the disk has, and whether the next sync writes it.
 #[derive(Clone, Copy)]
@@ -28,6 +28,9 @@ impl Byte {
     };
 }
 
+// How many bytes a file has room for.
+const ROOM: usize = 1_024;
+
 // A file: its bytes, how many of them reads show, and how many the disk has.
 #[derive(Drop)]
 struct Pages {
@@ -37,41 +40,26 @@ struct Pages {
 }
 
 impl Pages {
-    fn new(alloc: Global) -> Self {
+    fn new<R: Abort + AllocGlobal>(rt: &R) -> Self {
         Pages {
-            bytes: Vec::new(alloc),
+            bytes: vec![in rt.alloc(); Byte::ZERO; ROOM].expect(rt, "room"),
             shown: 0,
             kept: 0,
         }
     }
 
-    // Whether there was memory for so many places.
-    fn reach(&mut self, places: usize) -> bool {
-        for _ in self.bytes.len()..places {
-            if self.bytes.push(Byte::ZERO).is_err() {
-                return false;
-            }
-        }
-        true
-    }
-
     fn read(&self, place: usize, into: &mut [u8]) {
-        for (offset, byte) in into.iter_mut().enumerate() {
-            let there = self.bytes.get(place.saturating_add(offset));
-            *byte = there.copied().unwrap_or(Byte::ZERO).shown;
+        for (byte, there) in into.iter_mut().zip(self.bytes.iter().skip(place)) {
+            *byte = there.shown;
         }
     }
 
-    // Whether there was memory.
-    fn write(&mut self, place: usize, bytes: &[u8]) -> bool {
-        let end = place.saturating_add(bytes.len());
-        let is_done = self.reach(end);
+    fn write(&mut self, place: usize, bytes: &[u8]) {
         for (there, byte) in self.bytes.iter_mut().skip(place).zip(bytes) {
             there.shown = *byte;
             there.is_dirty = true;
         }
-        self.shown = self.shown.max(end);
-        is_done
+        self.shown = self.shown.max(place.saturating_add(bytes.len()));
     }
 
     fn cut(&mut self, len: usize) {
@@ -117,18 +105,7 @@ struct ForgetfulSite {
 }
 
 impl ForgetfulSite {
-    fn new(alloc: Global) -> Self {
-        ForgetfulSite {
-            a: Pages::new(alloc),
-            b: Pages::new(alloc),
-            syncs: 0,
-            fails_at: 0,
-            power_until: u64::MAX,
-            failures: 0,
-        }
-    }
-
-    fn pages(&self, side: Side) -> &Pages {
+    const fn pages(&self, side: Side) -> &Pages {
         match side {
             Side::A => &self.a,
             Side::B => &self.b,
@@ -144,13 +121,6 @@ impl ForgetfulSite {
         }
         self.failures = self.failures.wrapping_add(1);
         Err(DeviceFault { side, call })
-    }
-
-    // The site as the machine finds it when its power is back.
-    fn lose_power(&mut self) {
-        self.a.lose_power();
-        self.b.lose_power();
-        self.power_until = u64::MAX;
     }
 }
 
@@ -198,11 +168,12 @@ impl Site for ForgetfulSite {
     }
 
     fn write_at(&mut self, side: Side, place: u64, bytes: &[u8]) -> Result<(), DeviceFault> {
-        let is_done = match side {
+        match side {
             Side::A => self.a.write(place as usize, bytes),
             Side::B => self.b.write(place as usize, bytes),
-        };
-        self.told(is_done, side, Call::Write)
+        }
+        let has_room = self.pages(side).shown <= ROOM;
+        self.told(has_room, side, Call::Write)
     }
 
     fn cut(&mut self, side: Side, len: u64) -> Result<(), DeviceFault> {
@@ -231,9 +202,10 @@ impl Site for ForgetfulSite {
     fn reply(&mut self, _session: u64, _request: u64, _answer: &Answer) {}
 }
 
-type Engine = Flusher<ForgetfulSite>;
-
-fn opened<R: Abort + AllocGlobal>(rt: &R, site: ForgetfulSite) -> Result<Engine, OpenFault> {
+fn opened<R: Abort + AllocGlobal>(
+    rt: &R,
+    site: ForgetfulSite,
+) -> Result<Flusher<ForgetfulSite>, OpenFault> {
     match Flusher::open(rt.alloc(), site) {
         Ok((engine, core)) => {
             drop(core);
@@ -246,76 +218,73 @@ fn opened<R: Abort + AllocGlobal>(rt: &R, site: ForgetfulSite) -> Result<Engine,
     }
 }
 
-// A session that never asked sets the flag. Whether that is durable.
-fn set_flag<R: Abort + AllocGlobal>(rt: &R, engine: &mut Engine, session: u64) -> bool {
+// What an engine is asked for: to set the flag for a session that never asked, or to move.
+#[derive(Clone, Copy)]
+enum Act {
+    SetFlag(u64),
+    Move,
+}
+
+// The site behind an act, and whether that is durable. Before it so many sessions are shown.
+fn acted<R: Abort + AllocGlobal>(
+    rt: &R,
+    site: ForgetfulSite,
+    sessions: usize,
+    act: Act,
+) -> (ForgetfulSite, bool) {
+    let mut engine = opened(rt, site).expect(rt, "it is opened");
+    assert!(rt; engine.twin().core().sessions().rows().len() == sessions);
     if engine.owes() || !engine.room() {
         panic!(rt; "there is no room");
     }
-    let mut batch = batch_of(rt, engine.twin(), Part::Flag(session));
-    let is_done = engine.flush(&mut batch).is_ok();
-    drop(batch);
-    is_done
+    let is_done = match act {
+        Act::SetFlag(session) => {
+            let mut batch = batch_of(rt, engine.twin(), Part::Flag(session));
+            let flushed = engine.flush(&mut batch);
+            drop(batch);
+            flushed.is_ok()
+        }
+        Act::Move => engine.checkpoint().is_ok(),
+    };
+    (engine.close(), is_done)
 }
 
-fn moves<R: Abort>(rt: &R, engine: &mut Engine) -> Result<(), CheckpointFault> {
-    if engine.owes() {
-        panic!(rt; "it owes outputs");
-    }
-    engine.checkpoint()
-}
-
-fn sessions(engine: &Engine) -> usize {
-    engine.twin().core().sessions().rows().len()
-}
-
-// Member 1 of 1, which one session asked.
-fn asked_once<R: Abort + AllocGlobal>(rt: &R) -> ForgetfulSite {
-    let site = match format(rt.alloc(), ForgetfulSite::new(rt.alloc()), &MEMBER) {
+// Member 1 of 1, which one session asked. Of an act behind that a gate wasn't synced: two syncs make sure of the sides, one of
+// the record or the state, and the fourth fails.
+fn without_gate<R: Abort + AllocGlobal>(rt: &R, act: Act) -> ForgetfulSite {
+    let site = ForgetfulSite {
+        a: Pages::new(rt),
+        b: Pages::new(rt),
+        syncs: 0,
+        fails_at: 0,
+        power_until: u64::MAX,
+        failures: 0,
+    };
+    let site = match format(rt.alloc(), site, &MEMBER) {
         Ok(site) => site,
         Err(Back { site, fault }) => {
             drop(site);
             panic!(rt; "formatting fails: {fault}")
         }
     };
-    let mut engine = opened(rt, site).expect(rt, "it is opened");
-    assert!(rt; set_flag(rt, &mut engine, 1));
-    engine.close()
-}
-
-// The gate of a second session's record wasn't synced: two syncs make sure of the sides, one of the record, and the fourth fails.
-fn without_its_gate<R: Abort + AllocGlobal>(rt: &R) -> ForgetfulSite {
-    let mut site = asked_once(rt);
+    let (mut site, is_done) = acted(rt, site, 0, Act::SetFlag(1));
+    assert!(rt; is_done, "the first ask is durable");
     site.fails_at = site.syncs.saturating_add(4);
-    let mut engine = opened(rt, site).expect(rt, "it is opened");
-    assert!(rt; !set_flag(rt, &mut engine, 2));
-    engine.close()
+    let (site, is_done) = acted(rt, site, 1, act);
+    assert!(rt; !is_done, "the fourth sync fails");
+    site
 }
 
-// The gate that arms the other side wasn't synced: behind those of opening and of the state.
-fn without_its_arming<R: Abort + AllocGlobal>(rt: &R) -> ForgetfulSite {
-    let mut site = asked_once(rt);
-    site.fails_at = site.syncs.saturating_add(4);
-    let mut engine = opened(rt, site).expect(rt, "it is opened");
-    assert!(rt; moves(rt, &mut engine).is_err());
-    engine.close()
-}
-
-// How many sessions an engine has that is opened after a power cut, if it can be opened.
+// How many sessions the node has that is opened after a power cut, if one is.
 fn after_power_cut<R: Abort + AllocGlobal>(rt: &R, site: ForgetfulSite) -> Option<usize> {
     let mut site = site;
-    site.lose_power();
+    site.a.lose_power();
+    site.b.lose_power();
+    site.power_until = u64::MAX;
     let engine = opened(rt, site).ok()?;
-    let count = sessions(&engine);
+    let count = engine.twin().core().sessions().rows().len();
     drop(engine);
     Some(count)
-}
-
-// A third session asks, and the power is cut.
-fn asked_on<R: Abort + AllocGlobal>(rt: &R, engine: Engine) -> Option<usize> {
-    let mut engine = engine;
-    assert!(rt; sessions(&engine) == 2, "reads show what wasn't synced");
-    assert!(rt; set_flag(rt, &mut engine, 3));
-    after_power_cut(rt, engine.close())
 }
 
 fn opened_anew<R: Abort + AllocGlobal>(rt: &R, site: ForgetfulSite) -> ForgetfulSite {
@@ -328,37 +297,41 @@ fn opened_anew<R: Abort + AllocGlobal>(rt: &R, site: ForgetfulSite) -> Forgetful
     }
 }
 
+// A third session asks behind the second one's record, whose gate wasn't synced, and the power is cut.
 #[test]
 fn what_follows_a_gate_that_was_not_synced_is_lost_unless_it_is_written_anew(rt: HostRuntime) {
-    let plain = opened(&rt, without_its_gate(&rt)).expect(&rt, "it is opened");
-    assert!(rt; asked_on(&rt, plain) == Some(1));
-    let site = opened_anew(&rt, without_its_gate(&rt));
-    let anew = opened(&rt, site).expect(&rt, "it is opened");
-    assert!(rt; asked_on(&rt, anew) == Some(3));
+    for &(is_anew, left) in &[(false, 1), (true, 3)] {
+        let mut site = without_gate(&rt, Act::SetFlag(2));
+        if is_anew {
+            site = opened_anew(&rt, site);
+        }
+        let (site, is_done) = acted(&rt, site, 2, Act::SetFlag(3));
+        assert!(rt; is_done && after_power_cut(&rt, site) == Some(left));
+    }
 }
 
-// The power is cut after so many syncs of opening.
-fn cut_within<R: Abort + AllocGlobal>(rt: &R, syncs: u64) -> Option<usize> {
-    let mut site = without_its_arming(rt);
+// The gate that arms the other side wasn't synced. The power is cut after so many syncs of opening anew, or of moving the node
+// as it stands.
+fn cut_within<R: Abort + AllocGlobal>(rt: &R, syncs: u64, is_anew: bool) -> Option<usize> {
+    let mut site = without_gate(rt, Act::Move);
     site.power_until = site.syncs.saturating_add(syncs);
-    after_power_cut(rt, opened_anew(rt, site))
-}
-
-// The same where the node is moved as it stands.
-fn cut_within_a_move<R: Abort + AllocGlobal>(rt: &R, syncs: u64) -> Option<usize> {
-    let mut site = without_its_arming(rt);
-    site.power_until = site.syncs.saturating_add(syncs);
-    let mut engine = opened(rt, site).expect(rt, "it is opened");
-    assert!(rt; moves(rt, &mut engine).is_ok());
-    after_power_cut(rt, engine.close())
+    if is_anew {
+        return after_power_cut(rt, opened_anew(rt, site));
+    }
+    let (site, is_done) = acted(rt, site, 1, Act::Move);
+    assert!(rt; is_done, "it is moved");
+    after_power_cut(rt, site)
 }
 
 #[test]
 fn a_side_whose_arming_was_not_synced_is_armed_again(rt: HostRuntime) {
     let mut lost = 0u64;
     for syncs in 0..12 {
-        assert!(rt; cut_within(&rt, syncs) == Some(1), "after {syncs} syncs");
-        if cut_within_a_move(&rt, syncs).is_none() {
+        assert!(rt;
+            cut_within(&rt, syncs, true) == Some(1),
+            "after {syncs} syncs"
+        );
+        if cut_within(&rt, syncs, false).is_none() {
             lost = lost.saturating_add(1);
         }
     }

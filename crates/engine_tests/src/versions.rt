@@ -3,7 +3,6 @@
 use crate::openings::ENTERED;
 use crate::sites::{CLOSED, Laid, with_laid};
 use crate::steps::state_of;
-use std::process::Abort;
 use std::test::*;
 
 // Side A of member 1 of 1 in version 1, after a store and the ask of a collect, with a record behind the state.
@@ -177,23 +176,20 @@ pub const FIRST_SIDE: Laid = [&FIRST, &[], &[]];
 
 pub const FIRST_MEMBER_SIDE: Laid = [&FIRST_MEMBER, &[0], &[]];
 
-// Checks the state in version 2 of the node that is opened where this stands on side A and on side B.
-fn check_state<R: Abort + AllocGlobal>(rt: &R, a: &Laid, b: &Laid, state: &[u8]) {
-    let left = state_of(rt, with_laid(rt, a, b));
-    assert!(rt; left.as_slice() == state);
-}
+// What stands on side A and on side B, and the state in version 2 of the node that is opened. The last one has a record behind
+// its state.
+const STATES: [(Laid, Laid, &[u8]); 5] = [
+    (FIRST_SIDE, CLOSED, &SECOND),
+    (CLOSED, SECOND_SIDE, &SECOND),
+    ([&FIRST_ENTRANT, &[0], &[]], CLOSED, &ENTRANT_STATE),
+    (FIRST_MEMBER_SIDE, CLOSED, &MEMBER_STATE),
+    ([&FIRST_ENTRANT, &ENTERED, &[]], CLOSED, &ENTERED_STATE),
+];
 
-// The last one has a record behind its state.
 #[test]
 fn states_of_version_1_are_opened(rt: HostRuntime) {
-    check_state(&rt, &FIRST_SIDE, &CLOSED, &SECOND);
-    check_state(&rt, &CLOSED, &SECOND_SIDE, &SECOND);
-    check_state(&rt, &[&FIRST_ENTRANT, &[0], &[]], &CLOSED, &ENTRANT_STATE);
-    check_state(&rt, &FIRST_MEMBER_SIDE, &CLOSED, &MEMBER_STATE);
-    check_state(
-        &rt,
-        &[&FIRST_ENTRANT, &ENTERED, &[]],
-        &CLOSED,
-        &ENTERED_STATE,
-    );
+    for (a, b, state) in &STATES {
+        let left = state_of(&rt, with_laid(&rt, a, b));
+        assert!(rt; left.as_slice() == *state);
+    }
 }

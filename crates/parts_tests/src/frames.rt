@@ -4,29 +4,17 @@ ghost use Rattle.std.specs.Prelude.{◌≤◌, length};
 
 use crate::formats::check_bytes;
 use crate::refusals::unless_failed;
-use crate::views::text;
 use cc_frames::{Frame, FrameReader, decode_frame, encode_frame};
-use cc_messages::{Answer, Command, Refusal};
+use cc_messages::Refusal;
 use cc_wire::WireFault;
-use std::alloc::Global;
 use std::process::Abort;
-
-// Ask 7 1 Store a.
-const ASK: [u8; 24] = [
-    0, 0, 0, 0x14, 3, 0, 0, 0, 0, 0, 0, 0, 7, 0, 0, 0, 0, 0, 0, 0, 1, 1, 1, 0x61,
-];
-
-// Reply 7 1 Stored.
-const REPLY: [u8; 22] = [
-    0, 0, 0, 0x12, 4, 0, 0, 0, 0, 0, 0, 0, 7, 0, 0, 0, 0, 0, 0, 0, 1, 1,
-];
 
 // Refused 7 3, the twelfth refusal, 1.
 const REFUSED: [u8; 30] = [
     0, 0, 0, 0x1A, 5, 0, 0, 0, 0, 0, 0, 0, 7, 0, 0, 0, 0, 0, 0, 0, 3, 0x0C, 0, 0, 0, 0, 0, 0, 0, 1,
 ];
 
-// The bytes of a frame, which is let go.
+/// The bytes of a frame, which is let go.
 pub fn frame_bytes<R: Abort + AllocGlobal>(rt: &R, frame: Frame) -> Vec<u8> {
     let mut out = Vec::new(rt.alloc());
     let put = encode_frame(&frame, &mut out);
@@ -36,23 +24,7 @@ pub fn frame_bytes<R: Abort + AllocGlobal>(rt: &R, frame: Frame) -> Vec<u8> {
 }
 
 #[test]
-fn an_ask_is_written(rt: HostRuntime) {
-    let ask = Frame::Ask {
-        session: 7,
-        request: 1,
-        command: Command::Store(text(b"a")),
-    };
-    check_bytes(&rt, frame_bytes(&rt, ask), &ASK);
-}
-
-#[test]
-fn what_a_client_is_told_is_written(rt: HostRuntime) {
-    let reply = Frame::Reply {
-        session: 7,
-        request: 1,
-        answer: Answer::Stored,
-    };
-    check_bytes(&rt, frame_bytes(&rt, reply), &REPLY);
+fn a_refusal_is_told_by_its_number(rt: HostRuntime) {
     let skip = Refusal::Skip(1);
     let refused = Frame::Refused {
         session: 7,
@@ -61,21 +33,6 @@ fn what_a_client_is_told_is_written(rt: HostRuntime) {
         value: skip.value(),
     };
     check_bytes(&rt, frame_bytes(&rt, refused), &REFUSED);
-}
-
-// The bytes of the frame that these bytes spell.
-pub fn frame_again<R: Abort + AllocGlobal>(rt: &R, bytes: &[u8]) -> Vec<u8> {
-    let frame = decode_frame(rt.alloc(), bytes).expect(rt, "a frame");
-    frame_bytes(rt, frame)
-}
-
-pub fn frame_fault(alloc: Global, bytes: &[u8]) -> Option<WireFault> {
-    decode_frame(alloc, bytes).err()
-}
-
-#[test]
-fn frames_are_read_whole(rt: HostRuntime) {
-    check_bytes(&rt, frame_again(&rt, &ASK), &ASK);
 }
 
 // An unknown kind, a body that is longer than its fields, and an id of 0. A body that is cut off is Short only where all
@@ -95,37 +52,12 @@ const FRAME_FAULTS: [(&[u8], WireFault); 9] = [
 #[test]
 fn a_bad_field_of_a_cut_off_body_is_the_fault(rt: HostRuntime) {
     for &(bytes, fault) in &FRAME_FAULTS {
-        assert!(rt; frame_fault(rt.alloc(), bytes) == Some(fault));
+        assert!(rt; decode_frame(rt.alloc(), bytes).err() == Some(fault));
     }
 }
 
-fn stream_fault(alloc: Global, reader: &mut FrameReader, bytes: &[u8]) -> Option<WireFault> {
-    reader.feed(alloc, bytes).err()
-}
-
-// The faults of two pieces of one stream.
-fn stream_faults<R: Abort + AllocGlobal>(
-    rt: &R,
-    first: &[u8],
-    second: &[u8],
-) -> (Option<WireFault>, Option<WireFault>) {
-    let mut reader = FrameReader::new(rt.alloc()).expect(rt, "a reader");
-    let fault = stream_fault(rt.alloc(), &mut reader, first);
-    let then = stream_fault(rt.alloc(), &mut reader, second);
-    (fault, then)
-}
-
-#[test]
-fn a_bad_length_breaks_a_stream(rt: HostRuntime) {
-    let broken = Some(WireFault::Broken);
-    let long = stream_faults(&rt, &[0, 1, 0, 1], &ASK);
-    assert!(rt; long == (Some(WireFault::TooLarge), broken));
-    let empty = stream_faults(&rt, &[0, 0, 0, 0], &ASK);
-    assert!(rt; empty == (Some(WireFault::Short), broken));
-}
-
-// A frame of each kind: Leave, an Ack, a Post of Leave 1, Retire 9, RetireIfSilent 9, Skip 2 1 3, Share 8, and then those
-// above.
+// Leave, an Ack, a Post of Leave 1, Retire 9, RetireIfSilent 9, Skip 2 1 3, Share 8; then Ask 7 1 Store a, Reply 7 1 Stored, and
+// the Refused.
 const STREAM: [u8; 169] = [
     0, 0, 0, 1, 6, 0, 0, 0, 0x0D, 2, 0, 0, 0, 2, 0, 0, 0, 0, 0, 0, 0, 3, 0, 0, 0, 0x12, 1, 0, 0, 0,
     1, 0, 0, 0, 0, 0, 0, 0, 1, 5, 0, 0, 0, 1, 0, 0, 0, 5, 7, 0, 0, 0, 9, 0, 0, 0, 5, 0x24, 0, 0, 0,
@@ -154,26 +86,17 @@ fn write_frame<R: Abort + AllocGlobal>(
     used
 }
 
-// Writes the frames that the reader gives for the piece.
-fn write_frames<R: Abort + AllocGlobal>(
-    rt: &R,
-    reader: &mut FrameReader,
-    piece: &[u8],
-    out: &mut Vec<u8>,
-) {
-    let mut rest = piece;
-    for _ in 0..11 {
-        let used = write_frame(rt, reader, rest, out);
-        rest = &rest[used..];
-    }
-}
-
 // The frames of a stream that comes in two pieces, as they are written.
 fn read_in_two<R: Abort + AllocGlobal>(rt: &R, front: &[u8], back: &[u8]) -> Vec<u8> {
     let mut reader = FrameReader::new(rt.alloc()).expect(rt, "a reader");
     let mut out = Vec::new(rt.alloc());
-    write_frames(rt, &mut reader, front, &mut out);
-    write_frames(rt, &mut reader, back, &mut out);
+    for piece in [front, back] {
+        let mut rest = piece;
+        for _ in 0..11 {
+            let used = write_frame(rt, &mut reader, rest, &mut out);
+            rest = &rest[used..];
+        }
+    }
     out
 }
 
@@ -183,19 +106,4 @@ fn a_stream_is_cut_anywhere(rt: HostRuntime) {
         let (front, back) = STREAM.split_at(cut);
         check_bytes(&rt, read_in_two(&rt, front, back), &STREAM);
     }
-}
-
-// The frames of a stream that comes byte by byte, as they are written.
-fn read_each<R: Abort + AllocGlobal>(rt: &R, bytes: &[u8]) -> Vec<u8> {
-    let mut reader = FrameReader::new(rt.alloc()).expect(rt, "a reader");
-    let mut out = Vec::new(rt.alloc());
-    for byte in bytes {
-        write_frames(rt, &mut reader, &[*byte], &mut out);
-    }
-    out
-}
-
-#[test]
-fn a_stream_comes_byte_by_byte(rt: HostRuntime) {
-    check_bytes(&rt, read_each(&rt, &STREAM), &STREAM);
 }

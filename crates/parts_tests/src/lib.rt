@@ -1,9 +1,7 @@
-//! Tests of the messages, of the parts of a node and of a whole one, of what a server and a client of it decide, and of requests
+//! Tests of the bytes of messages and frames, of the parts of a node, of what a server and a client of it decide, and of requests
 //! over HTTP, by the public calls alone.
 #![tactic(auto)]
 
-#[cfg(test)]
-mod absent;
 #[cfg(test)]
 mod changes;
 #[cfg(test)]
@@ -19,13 +17,9 @@ mod http;
 #[cfg(test)]
 mod links;
 #[cfg(test)]
-mod node;
-#[cfg(test)]
 mod objects;
 #[cfg(test)]
-mod operations;
-#[cfg(test)]
-mod outboxes;
+mod openings;
 #[cfg(test)]
 mod protocol;
 #[cfg(test)]
@@ -35,10 +29,6 @@ mod sessions;
 #[cfg(test)]
 mod sets;
 #[cfg(test)]
-mod shares;
-#[cfg(test)]
 mod shown;
-#[cfg(test)]
-mod skips;
 #[cfg(test)]
 mod views;

@@ -1,6 +1,6 @@
 //! Numbered links.
 
-ghost use Rattle.std.specs.Prelude.{◌≡◌, ◌≤◌};
+ghost use Rattle.std.specs.Prelude.{◌≡◌};
 ghost use Rattle.std.specs.FinMap.{empty, len};
 ghost use Rattle.cc_links.specs.Links.{ReachesWithin};
 
@@ -8,8 +8,8 @@ use crate::sets::id;
 use cc_links::{LinkRow, Links};
 use std::process::Abort;
 
-/// No peer has a link.
-pub fn no_links<R: Abort + AllocGlobal>(rt: &R) -> Links
+// No peer has a link.
+fn no_links<R: Abort + AllocGlobal>(rt: &R) -> Links
     ensures empty { result ≡ empty }
     ensures len { len result ≡ 0 }
 {
@@ -28,16 +28,25 @@ fn row(peer: u32, acked: u64) -> LinkRow
     }
 }
 
-/// Three posts: peer 1 has acknowledged two of them, peer 2 one.
+// Three posts: peer 1 has acknowledged two of them, peer 2 one.
 #[tactic(auto, using(cc_links::specs::LinkLaws::reaches_empty, cc_links::specs::LinkLaws::reaches_insert, cc_views::specs::MapLaws::len_insert))]
-pub fn two_links<R: Abort + AllocGlobal>(rt: &R) -> Links
-    ensures reached { ReachesWithin 3 result }
-    ensures len { len result ≤ 2 }
+fn two_links<R: Abort + AllocGlobal>(rt: &R) -> Links
+    ensures { ReachesWithin 3 result }
 {
     let mut links = no_links(rt);
     links.insert(row(1, 2));
     links.insert(row(2, 1));
     links
+}
+
+#[test]
+fn only_live_links_hold_posts_back(rt: HostRuntime) {
+    let links = two_links(&rt);
+    let needed = [
+        links.lowest_needed(&[], 3),
+        links.lowest_needed(&[id(2)], 3),
+    ];
+    assert!(rt; needed == [1, 2]);
 }
 
 fn are_numbered(links: &Links) -> bool {
@@ -55,36 +64,4 @@ fn numbers_begin_at_one_on_each_link(rt: HostRuntime) {
     links.add(id(1), 0);
     links.add(id(4), 2);
     assert!(rt; are_numbered(&links));
-}
-
-#[test]
-fn only_live_links_hold_posts_back(rt: HostRuntime) {
-    let links = two_links(&rt);
-    let needed = [
-        links.lowest_needed(&[], 3),
-        links.lowest_needed(&[id(2)], 3),
-    ];
-    assert!(rt; needed == [1, 2]);
-}
-
-// A copy of both links, after peer 1 was heard and peer 2 has acknowledged three posts. Peer 9 has no link.
-fn heard_and_acked<R: Abort + AllocGlobal>(rt: &R) -> Links {
-    let mut links = two_links(rt);
-    links.hear(id(1), 7);
-    links.ack(id(2), 3);
-    links.hear(id(9), 1);
-    links.copy(rt.alloc()).expect(rt, "a copy")
-}
-
-fn are_read_again(copy: &Links) -> bool {
-    (copy.heard(id(1)), copy.heard(id(9))) == (7, 0)
-        && copy.awaits_ack(id(1), 3, 3)
-        && !copy.awaits_ack(id(2), 3, 3)
-        && matches!(copy.get(id(2)), Some(row) if row.acked == 3)
-}
-
-#[test]
-fn hears_and_acks_are_read_again(rt: HostRuntime) {
-    let copy = heard_and_acked(&rt);
-    assert!(rt; are_read_again(&copy));
 }

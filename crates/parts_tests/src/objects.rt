@@ -1,6 +1,6 @@
 //! What a command writes, and what is read of a view.
 
-ghost use Rattle.std.specs.Prelude.{◌≡◌, ◌+◌, ◌≤◌};
+ghost use Rattle.std.specs.Prelude.{◌≡◌};
 ghost use Rattle.std.specs.FinMap.{len};
 
 use crate::sets::id;
@@ -18,52 +18,32 @@ fn row(node: u32, value: Value) -> Row {
     }
 }
 
-fn with_members<R: Abort>(rt: &R, members: [u32; 2]) -> Value {
-    let one = add_member(&Value::empty(), members[0]).expect(rt, "room");
-    add_member(&one, members[1]).expect(rt, "room")
+// The value with a member more, where there is room.
+fn with_member<R: Abort>(rt: &R, value: &Value, number: u32) -> Value {
+    add_member(value, number).expect(rt, "room")
 }
 
-// The members of two rows.
+// What is read of no row, of one with the maximum 9, and of that and one with the maximum 5 and the flag. These have the members
+// 5 and 2, and 9 and 5.
 #[tactic(auto, using(cc_views::specs::MergeLaws::merge_row_is_no_larger))]
-fn view<R: Abort + AllocGlobal>(rt: &R) -> View
-    ensures { len result ≤ 2 }
-{
-    let first = row(1, with_members(rt, [5, 2]));
-    let second = row(2, with_members(rt, [9, 5]));
-    let mut view = no_rows(rt);
-    view.merge_row(first);
-    view.merge_row(second);
-    view
-}
-
-// Whether these are the members of a view, which is let go.
-fn has_members<R: Abort + AllocGlobal>(rt: &R, view: View, wanted: &[u32]) -> bool {
-    let members = set_of(rt.alloc(), &view).expect(rt, "members");
-    members.as_slice() == wanted
-}
-
-#[test]
-fn a_set_is_the_union_of_the_rows(rt: HostRuntime) {
-    let none = has_members(&rt, no_rows(&rt), &[]);
-    let three = has_members(&rt, view(&rt), &[2, 5, 9]);
-    assert!(rt; none && three);
-}
-
-// What is read of no row, of one with the maximum 9, and of that and one with the maximum 5 and the flag.
-#[tactic(auto, using(cc_views::specs::MergeLaws::merge_row_is_no_larger))]
-fn reads(view: &mut View) -> [(u64, bool); 3]
+fn reads<R: Abort>(rt: &R, view: &mut View) -> [(u64, bool); 3]
     requires { len view.old ≡ 0 }
 {
     let of_none = (max_of(view), flag_of(view));
-    view.merge_row(row(1, write_max(&Value::empty(), 9)));
+    let first = with_member(rt, &write_max(&Value::empty(), 9), 5);
+    view.merge_row(row(1, with_member(rt, &first, 2)));
     let of_one = (max_of(view), flag_of(view));
-    view.merge_row(row(2, set_flag(&write_max(&Value::empty(), 5))));
+    let second = with_member(rt, &set_flag(&write_max(&Value::empty(), 5)), 9);
+    view.merge_row(row(2, with_member(rt, &second, 5)));
     [of_none, of_one, (max_of(view), flag_of(view))]
 }
 
 #[test]
 fn a_read_goes_over_all_rows(rt: HostRuntime) {
     let mut view = no_rows(&rt);
-    let reads = reads(&mut view);
-    assert!(rt; reads == [(0, false), (9, false), (9, true)]);
+    let reads = reads(&rt, &mut view);
+    let members = set_of(rt.alloc(), &view).expect(&rt, "members");
+    let is_union = members.as_slice() == [2, 5, 9].as_slice();
+    drop((view, members));
+    assert!(rt; reads == [(0, false), (9, false), (9, true)] && is_union);
 }

@@ -2,18 +2,15 @@
 
 mod access;
 mod admission;
-mod bytes;
 mod calling;
 mod clients;
 mod connecting;
-mod duties;
 mod frames;
 mod greeting;
 mod identities;
 mod incoming;
 mod last_asks;
 mod objecting;
-mod retirements;
 mod routes;
 mod speakers;
 mod standings;

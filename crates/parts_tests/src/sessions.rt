@@ -25,13 +25,3 @@ fn a_request_runs_once_and_in_turn(rt: HostRuntime) {
     let goes_on = goes_on_with_two(&sessions);
     assert!(rt; begins_at_one && goes_on);
 }
-
-#[test]
-fn a_copy_has_the_same_rows(rt: HostRuntime) {
-    let mut sessions = Sessions::new(rt.alloc()).expect(&rt, "sessions");
-    sessions.begin(7, 1);
-    let copy = sessions.copy(rt.alloc()).expect(&rt, "a copy");
-    // What it tells of sessions 7 and 8, and how many rows it has.
-    let copied = (copy.finish(7), copy.finish(8), copy.rows().len());
-    assert!(rt; copied == (Some(1), None, sessions.rows().len()));
-}

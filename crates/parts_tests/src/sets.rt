@@ -18,10 +18,10 @@ fn ids<R: Abort + AllocGlobal>(rt: &R, number: u32) -> IdSet {
     set
 }
 
-/// Who entered, who joined and who left, with 0 for nobody.
-pub fn changes_of<R: Abort + AllocGlobal>(rt: &R, entered: u32, joined: u32, left: u32) -> Changes {
+/// Who entered and who joined, with 0 for nobody.
+pub fn changes_of<R: Abort + AllocGlobal>(rt: &R, entered: u32, joined: u32) -> Changes {
     let entered = ids(rt, entered);
     let joined = ids(rt, joined);
-    let left = ids(rt, left);
+    let left = ids(rt, 0);
     Changes::from_sets(entered, joined, left)
 }

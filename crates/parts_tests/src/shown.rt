@@ -1,12 +1,12 @@
 //! What a node shows of itself: whether it is ready, and its rows as JSON.
 
-use crate::node::machine::{fresh, opening};
+use crate::openings::{fresh, opening};
 use crate::sets::id;
 use crate::views::{no_rows, row};
 use cc_changes::Fraction;
 use cc_node::Opening;
 use cc_site::Side;
-use cc_status::{Counted, DiskShown, Live, PeerNote, Shown, Status, rows_of, status_of};
+use cc_status::{Counted, DiskShown, Live, PeerNote, Shown, rows_of, status_of};
 use cc_views::{Row, Text, View};
 use std::process::Abort;
 
@@ -52,8 +52,15 @@ fn note((peer, (is_silent, is_absent)): (u32, (bool, bool))) -> PeerNote {
     }
 }
 
-fn live<'a>(notes: &'a [PeerNote], counted: &'a Counted) -> Live<'a> {
-    Live {
+fn check_case<R: Abort + AllocGlobal>(rt: &R, shown: &Shown, case: &Case) {
+    let &(peers, reason, away) = case;
+    let notes: Vec<PeerNote> = peers
+        .iter()
+        .map(|peer| note(*peer))
+        .collect(rt.alloc())
+        .expect(rt, "notes");
+    let counted = Counted::default();
+    let live = Live {
         version: "0",
         started: 1,
         now: 2,
@@ -65,28 +72,15 @@ fn live<'a>(notes: &'a [PeerNote], counted: &'a Counted) -> Live<'a> {
             records: 0,
             events: 0,
         },
-        peers: notes,
-        counted,
-    }
-}
-
-fn check_case<R: Abort + AllocGlobal>(rt: &R, shown: &Shown, case: &Case) {
-    let &(peers, reason, away) = case;
-    let notes: Vec<PeerNote> = peers
-        .iter()
-        .map(|peer| note(*peer))
-        .collect(rt.alloc())
-        .expect(rt, "notes");
-    let counted = Counted::default();
-    let status = status_of(rt.alloc(), shown, &live(&notes, &counted)).expect(rt, "a status");
-    check_told(rt, &status, reason, away);
+        peers: &notes,
+        counted: &counted,
+    };
+    let status = status_of(rt.alloc(), shown, &live).expect(rt, "a status");
+    let is_told = status.reason.as_str() == reason
+        && status.is_ready == reason.is_empty()
+        && status.quorum.away == away;
     drop((status, notes));
-}
-
-fn check_told<R: Abort>(rt: &R, status: &Status, reason: &str, away: u64) {
-    assert!(rt; status.reason.as_str() == reason, "{reason}");
-    assert!(rt; status.is_ready == reason.is_empty(), "{reason}");
-    assert!(rt; status.quorum.away == away, "{reason}");
+    assert!(rt; is_told, "{reason}");
 }
 
 #[test]
@@ -117,16 +111,12 @@ fn view_of<R: Abort + AllocGlobal>(rt: &R, first: Row, second: Row) -> View {
     view
 }
 
-fn greatest_row() -> Row {
-    let mut row = row(1, b"%ff%fe");
-    row.number = u64::MAX;
-    row.value.max = 9_007_199_254_740_993;
-    row
-}
-
 #[test]
 fn rows_are_json_without_loss(rt: HostRuntime) {
-    let view = view_of(&rt, greatest_row(), row(2, b"\xff\xfe"));
+    let mut greatest = row(1, b"%ff%fe");
+    greatest.number = u64::MAX;
+    greatest.value.max = 9_007_199_254_740_993;
+    let view = view_of(&rt, greatest, row(2, b"\xff\xfe"));
     let shown = rows_of(rt.alloc(), &view).expect(&rt, "rows");
     let text = serde_json::to_string(rt.alloc(), &shown).expect(&rt, "a text");
     assert!(rt; text.as_str() == ROWS, "{text}");

@@ -1,25 +1,18 @@
-//! Views, texts and sets of numbers.
+//! Views and texts.
 
-ghost use Rattle.std.specs.Prelude.{◌≡◌, ◌≤◌, IsSome, length};
-ghost use Rattle.std.specs.FinMap.{empty, len};
+ghost use Rattle.std.specs.Prelude.{◌≡◌, ◌≤◌, length};
+ghost use Rattle.std.specs.FinMap.{len};
 
 use crate::sets::id;
 use cc_views::{Row, Text, Value, View};
 use std::process::Abort;
-
-/// A text of at most 64 bytes.
-pub fn text(bytes: &[u8]) -> Text
-    requires { length bytes.now ≤ 64 }
-{
-    Text::new(bytes).unwrap()
-}
 
 /// A row with number 1.
 pub fn row(node: u32, bytes: &[u8]) -> Row
     requires { length bytes.now ≤ 64 }
 {
     let mut value = Value::empty();
-    value.text = text(bytes);
+    value.text = Text::new(bytes).unwrap();
     Row {
         node: id(node),
         number: 1,
@@ -29,13 +22,13 @@ pub fn row(node: u32, bytes: &[u8]) -> Row
 
 /// A view of no rows.
 pub fn no_rows<R: Abort + AllocGlobal>(rt: &R) -> View
-    ensures empty { result ≡ empty }
-    ensures len { len result ≡ 0 }
+    ensures { len result ≡ 0 }
 {
     View::new(rt.alloc()).expect(rt, "a view")
 }
 
-fn view<R: Abort + AllocGlobal>(rt: &R, node: u32, text: &[u8]) -> View
+/// A view of one row, of that node, number 1 and that text.
+pub fn one_row<R: Abort + AllocGlobal>(rt: &R, node: u32, text: &[u8]) -> View
     requires { length text.now ≤ 64 }
     ensures { len result ≡ 1 }
 {
@@ -44,36 +37,11 @@ fn view<R: Abort + AllocGlobal>(rt: &R, node: u32, text: &[u8]) -> View
     view
 }
 
-// Into the view of node 1 with text "a" that of a node with text "b" is merged. How many rows it has then, and whether its own
-// is the only one.
+#[test]
 #[tactic(auto, using(cc_views::specs::MergeLaws::merge_is_no_larger))]
-fn merged<R: Abort + AllocGlobal>(rt: &R, node: u32) -> (usize, bool) {
-    let mut left = view(rt, 1, b"a");
-    let other = view(rt, node, b"b");
-    left.merge(&other);
-    (left.rows().len(), left.rows() == [row(1, b"a")].as_slice())
-}
-
-#[test]
 fn equal_numbers_keep_the_left_row(rt: HostRuntime) {
-    assert!(rt; merged(&rt, 1) == (1, true));
-}
-
-// The view has one row more than its copy, which is at most the view, and the view isn't at most it.
-#[test]
-#[tactic(auto, using(cc_views::specs::MergeLaws::merge_row_is_no_larger))]
-fn a_copy_stays_as_it_was(rt: HostRuntime) {
-    let mut view = view(&rt, 1, b"a");
-    let copy = view.copy(rt.alloc()).expect(&rt, "a copy");
-    view.merge_row(row(2, b"b"));
-    let found = (copy.rows().len(), copy.at_most(&view), view.at_most(&copy));
-    assert!(rt; found == (1, true, false));
-}
-
-#[test]
-fn rows_are_taken_over(rt: HostRuntime) {
-    let other = view(&rt, 2, b"b");
-    let mut view = view(&rt, 1, b"a");
-    view.copy_from(&other);
-    assert!(rt; view.rows() == [row(2, b"b")].as_slice());
+    let mut view = one_row(&rt, 1, b"a");
+    let same = one_row(&rt, 1, b"b");
+    view.merge(&same);
+    assert!(rt; view.rows() == [row(1, b"a")].as_slice());
 }

@@ -1,8 +1,7 @@
 //! What the disks of a cluster hold.
 
-use crate::played::say_all;
-use cc_play::Cluster;
-use cc_site::{Choice, MemorySite, Side, Site};
+use cc_play::{Cluster, Played, parse};
+use cc_site::{Choice, Side, Site};
 use std::process::Abort;
 
 // Lines, what they print, and whether they change what the sides of node 2 hold. Node 2 has a store of node 1, and is then
@@ -47,40 +46,29 @@ const STEPS: [(&str, &str, bool); 6] = [
     ("carry 1 2 1", "2 refused 5 Old 1\n", false),
 ];
 
-#[test]
-fn refused_events_are_not_journalled(rt: HostRuntime) {
-    let mut cluster = Cluster::new(rt.alloc());
-    for &(lines, wanted, is_journalled) in &STEPS {
-        let is_changed = check_step(&rt, &mut cluster, lines, wanted);
-        assert!(rt; is_changed == is_journalled, "{lines}");
-    }
-    drop(cluster);
-}
-
-// These lines have to print that text. Whether they change what the sides of node 2 hold.
-fn check_step<R: Abort + AllocGlobal>(
+// Plays lines on a cluster, each of which has to be good, and adds what they print.
+fn say_all<R: Abort + AllocGlobal>(
     rt: &R,
     cluster: &mut Cluster,
     lines: &str,
-    wanted: &str,
-) -> bool {
-    let before = sides(rt, cluster);
-    let mut output = Vec::new(rt.alloc());
-    say_all(rt, cluster, lines, &mut output);
-    assert!(rt; output.as_slice() == wanted.as_bytes(), "{lines}");
-    let now = sides(rt, cluster);
-    now.as_slice() != before.as_slice()
+    output: &mut Vec<u8>,
+) {
+    for line in lines.lines() {
+        let parsed = parse(rt.alloc(), line.as_bytes()).expect(rt, "room");
+        let line = parsed.expect(rt, "a line of a known form");
+        let played = cluster
+            .play(rt.alloc(), line, output)
+            .expect(rt, "the output is written");
+        assert!(rt; played == Played::Good, "a line can't be played");
+    }
 }
 
 // What both sides of node 2 hold: nothing before it is made.
 fn sides<R: Abort + AllocGlobal>(rt: &R, cluster: &Cluster) -> Vec<Vec<u8>> {
-    match cluster.station(2) {
-        Some(station) => contents(rt, station.site()),
-        None => Vec::new(rt.alloc()),
-    }
-}
-
-fn contents<R: Abort + AllocGlobal>(rt: &R, site: &MemorySite) -> Vec<Vec<u8>> {
+    let Some(station) = cluster.station(2) else {
+        return Vec::new(rt.alloc());
+    };
+    let site = station.site();
     let mut image = site.image(rt.alloc(), &Choice::Read).expect(rt, "an image");
     let a = held(rt, &mut image, Side::A);
     let b = held(rt, &mut image, Side::B);
@@ -93,4 +81,19 @@ fn held<R: Abort + AllocGlobal, S: Site>(rt: &R, site: &mut S, side: Side) -> Ve
     let mut bytes = vec![in rt.alloc(); 0u8; length as usize].expect(rt, "room");
     site.read(side, 0, &mut bytes).expect(rt, "a read");
     bytes
+}
+
+#[test]
+fn refused_events_are_not_journalled(rt: HostRuntime) {
+    let mut cluster = Cluster::new(rt.alloc());
+    for &(lines, wanted, is_journalled) in &STEPS {
+        let before = sides(&rt, &cluster);
+        let mut output = Vec::new(rt.alloc());
+        say_all(&rt, &mut cluster, lines, &mut output);
+        assert!(rt; output.as_slice() == wanted.as_bytes(), "{lines}");
+        let now = sides(&rt, &cluster);
+        let is_changed = now.as_slice() != before.as_slice();
+        assert!(rt; is_changed == is_journalled, "{lines}");
+    }
+    drop(cluster);
 }

@@ -1,26 +1,69 @@
-//! Folders that are formatted, and what stands in them.
+//! Folders that are made anew, formatted and told of, and what stands in them.
 
-use crate::folder_calls::{dumped, entrant, formatted, hold, made, put_behind, remove};
 use crate::words::{format_of, with};
-use cc_commands::DumpScope;
+use cc_commands::{DumpScope, FormatOrder, dump_folder, format_folder};
+use cc_files::{FileSite, NoOutlet};
 use cc_orders::{FormatWords, WordFault};
 use std::fs;
 use std::fs::{File, Files, Permissions};
 use std::os::unix::fs::PermissionsExt;
 use std::process::Abort;
 
-fn check_format<R: Abort + AllocGlobal + Files<File = File>>(
+// Entrant 4, whose one contact is node 1.
+fn entrant() -> FormatWords<'static> {
+    with(&format_of("4"), WordFault::Contacts, "1")
+}
+
+/// A member of two, with contact 3 and a share of 32.
+pub fn member() -> FormatWords<'static> {
+    FormatWords {
+        id: "1",
+        initial: Some("1,2"),
+        contacts: Some("3"),
+        beta: Some("2/3"),
+        gamma: Some("4/5"),
+        share: Some("32"),
+        cluster: None,
+    }
+}
+
+/// A new folder of that name.
+pub fn made<R: Abort + AllocGlobal + Files>(rt: &R, folder: &str) {
+    let _ = fs::remove_dir_all(rt, folder);
+    fs::create_dir(rt, folder).expect(rt, "a folder");
+}
+
+/// Removes a folder, and what is in it.
+pub fn remove<R: Abort + AllocGlobal + Files>(rt: &R, folder: &str) {
+    fs::remove_dir_all(rt, folder).expect(rt, "the folder is removed");
+}
+
+/// Formats a folder for a node: the status is that, and just this is printed.
+pub fn check_format<R: Abort + AllocGlobal + Files<File = File>>(
     rt: &R,
     folder: &str,
     words: &FormatWords<'_>,
     status: u8,
     wanted: &str,
 ) {
-    let (ended, output) = formatted(rt, folder, words);
-    assert!(rt;
-        ended == status && output.as_str() == wanted,
-        "{ended} {output}"
-    );
+    let order = FormatOrder::parse(rt.alloc(), words).expect(rt, "an order");
+    let mut output = Vec::new(rt.alloc());
+    let ended = format_folder(rt, rt.alloc(), folder, &order, 42, &mut output);
+    drop(order);
+    let is_so = ended.expect(rt, "a status") == status;
+    assert!(rt; is_so && output.as_slice() == wanted.as_bytes(), "{wanted}");
+}
+
+/// Tells what stands in a folder: the status, and what is printed.
+pub fn dumped<R: Abort + AllocGlobal + Files<File = File>>(
+    rt: &R,
+    folder: &str,
+    scope: DumpScope,
+) -> (u8, String) {
+    let mut output = Vec::new(rt.alloc());
+    let ended = dump_folder(rt, rt.alloc(), folder, scope, &mut output);
+    let status = ended.expect(rt, "a status");
+    (status, String::from_utf8(output).expect(rt, "a text"))
 }
 
 fn check_dump<R: Abort + AllocGlobal + Files<File = File>>(
@@ -30,168 +73,109 @@ fn check_dump<R: Abort + AllocGlobal + Files<File = File>>(
     wanted: &str,
 ) {
     let (ended, output) = dumped(rt, folder, DumpScope::Sides);
-    assert!(rt;
-        ended == status && output.as_str() == wanted,
-        "{ended} {output}"
-    );
+    assert!(rt; ended == status && output.as_str() == wanted, "{wanted}");
 }
 
-// A folder that keeps entrant 4, its side A, the bytes that are put behind its state there, and the status and what is printed
-// then.
-type Entrant = (&'static str, &'static str, &'static [u8], u8, &'static str);
-
-// Of nothing, of the record of one Enter, and of a record with a bad length.
-const ENTRANTS: [Entrant; 3] = [
+// The bytes that are put in the place of the one byte that ends the state of entrant 4 and with it its side A, the status, and
+// what is printed then.
+const ENTRANTS: [(&[u8], u8, &str); 3] = [
+    // Nothing, the record of one Enter, and a record with a bad length.
     (
-        "formatted_folder",
-        "formatted_folder/side-a",
         &[0],
         0,
         "A armed 1\nB closed\nopened A records 0 events 0\n",
     ),
     (
-        "entered_folder",
-        "entered_folder/side-a",
         &[0xA5, 0, 0, 0, 6, 1, 0, 0, 0, 1, 1, 0],
         0,
         "A armed 1\nB closed\nopened A records 1 events 1\n",
     ),
     (
-        "damaged_folder",
-        "damaged_folder/side-a",
         &[0xA5, 0, 0, 1, 0],
         1,
         "A armed 1\nB closed\nfault Damaged A 154\n",
     ),
 ];
 
-fn check_entrant<R: Abort + AllocGlobal + Files<File = File>>(rt: &R, row: &Entrant) {
-    let &(folder, path, bytes, status, wanted) = row;
-    made(rt, folder);
-    check_format(rt, folder, &entrant(), 0, "formatted 4\n");
-    put_behind(rt, path, bytes);
-    check_dump(rt, folder, status, wanted);
-    remove(rt, folder);
-}
+const ENTRANT_LINES: &str =
+    "A armed 1\nB closed\nopened A records 0 events 0\nnode 4\nbeta 4/5\ngamma 4/5\nshare 1\nstanding apart\nmembers none\npresent none\nleft none\nview []\nround none\nlink 1 owes 0 of 0 acknowledged 0 heard 0\nlink 4 owes 0 of 0 acknowledged 0 heard 0\nsessions 0 of 256\nposts made 0 kept 0 of 512\nanswers kept 0 of 256\n";
 
+// The same once it has entered: each link owes the acknowledgement of its Enter.
+const ENTERED_LINES: &str =
+    "A armed 1\nB closed\nopened A records 1 events 1\nnode 4\nbeta 4/5\ngamma 4/5\nshare 1\nstanding entered, echoes 0, needs one of a member\nmembers none\npresent 4\nleft none\nview []\nround none\nlink 1 owes 1 of 1 acknowledged 0 heard 0\nlink 4 owes 1 of 1 acknowledged 0 heard 0\nsessions 0 of 256\nposts made 1 kept 1 of 512\nanswers kept 0 of 256\n";
+
+// The node is told by each dump that isn't of the sides alone.
 #[test]
-fn a_formatted_folder_is_dumped(rt: HostRuntime) {
-    for row in &ENTRANTS {
-        check_entrant(&rt, row);
+fn a_folder_of_an_entrant_is_dumped(rt: HostRuntime) {
+    const FOLDER: &str = "entrant_folder";
+    const SIDE: &str = "entrant_folder/side-a";
+    made(&rt, FOLDER);
+    check_format(&rt, FOLDER, &entrant(), 0, "formatted 4\n");
+    let (_, told) = dumped(&rt, FOLDER, DumpScope::Node);
+    assert!(rt; told.as_str() == ENTRANT_LINES, "{told}");
+    let mut side = fs::read(&rt, SIDE).expect(&rt, "a side");
+    assert!(rt; side.len() == 154, "the side has another length");
+    for &(bytes, status, wanted) in &ENTRANTS {
+        side.truncate(153);
+        side.extend_from_slice(bytes).expect(&rt, "room");
+        fs::write(&rt, SIDE, &side).expect(&rt, "the side is written");
+        check_dump(&rt, FOLDER, status, wanted);
+        if bytes.len() == 12 {
+            let (_, told) = dumped(&rt, FOLDER, DumpScope::Node);
+            assert!(rt; told.as_str() == ENTERED_LINES, "{told}");
+        }
     }
+    remove(&rt, FOLDER);
 }
 
 // What is printed of sides that aren't there, or have no byte.
 const EMPTY: &str = "A closed\nB closed\nfault NotFormatted\n";
 
-// What is told of a folder without a node, which is removed then.
-fn check_empty<R: Abort + AllocGlobal + Files<File = File>>(rt: &R, folder: &str) {
-    check_dump(rt, folder, 1, EMPTY);
-    remove(rt, folder);
-}
-
-// The second time the files are there.
-#[test]
-fn an_empty_folder_is_dumped(rt: HostRuntime) {
-    const FOLDER: &str = "empty_folder";
-    made(&rt, FOLDER);
-    check_dump(&rt, FOLDER, 1, EMPTY);
-    check_empty(&rt, FOLDER);
-}
-
-// What is told of a folder of which side A can't be opened.
-fn check_closed<R: Abort + AllocGlobal + Files<File = File>>(rt: &R, folder: &str) {
-    check_dump(rt, folder, 1, "fault Device A Length\n");
-    check_format(rt, folder, &entrant(), 1, "Device A Length\n");
-}
-
-#[test]
-fn a_folder_has_to_exist(rt: HostRuntime) {
-    check_closed(&rt, "missing_folder");
-}
-
-// What is told of a folder that another program holds, and once it is free.
-fn check_freed<R: Abort + AllocGlobal + Files<File = File>>(rt: &R, folder: &str) {
-    made(rt, folder);
-    let holder = hold(rt, folder);
-    check_closed(rt, folder);
-    drop(holder);
-    check_empty(rt, folder);
-}
-
-#[test]
-fn a_folder_is_held_by_one(rt: HostRuntime) {
-    check_freed(&rt, "held_folder");
-}
-
-// What is told of a folder where another stands in the place of side B.
-fn check_folders<R: Abort + AllocGlobal + Files<File = File>>(rt: &R, folder: &str, side: &str) {
-    made(rt, folder);
-    made(rt, side);
-    check_dump(rt, folder, 1, "fault Device B Length\n");
-    check_format(rt, folder, &entrant(), 1, "Device B Length\n");
-    remove(rt, folder);
-}
-
-#[test]
-fn a_side_has_to_be_a_file(rt: HostRuntime) {
-    check_folders(&rt, "folder_of_folders", "folder_of_folders/side-b");
-}
-
-// Makes an empty file that nobody may read or write, and gives what is told of a folder with it as side B. Nothing holds off a
-// root user, for whom it is an empty side.
-fn told_of_closed_file<R: Abort + AllocGlobal + Files<File = File>>(
-    rt: &R,
-    side: &str,
-) -> &'static str {
-    fs::write(rt, side, b"").expect(rt, "a file");
-    fs::set_permissions(rt, side, Permissions::from_mode(0)).expect(rt, "a closed file");
-    match File::open(rt, side) {
-        Ok(_) => EMPTY,
-        Err(_) => "fault Device B Length\n",
-    }
-}
-
-fn check_closed_file<R: Abort + AllocGlobal + Files<File = File>>(
+// What is told of a folder of which that side can't be opened.
+fn check_closed<R: Abort + AllocGlobal + Files<File = File>>(
     rt: &R,
     folder: &str,
-    side: &str,
+    dumped: &str,
+    formatted: &str,
 ) {
-    made(rt, folder);
-    let wanted = told_of_closed_file(rt, side);
-    check_dump(rt, folder, 1, wanted);
-    remove(rt, folder);
+    check_dump(rt, folder, 1, dumped);
+    check_format(rt, folder, &entrant(), 1, formatted);
 }
 
+// A folder that is missing, empty (the second time the files are there), held by another program, and with a folder in the
+// place of side B.
+#[test]
+fn a_folder_that_cannot_be_opened_is_told(rt: HostRuntime) {
+    const FOLDER: &str = "closed_folder";
+    let _ = fs::remove_dir_all(&rt, FOLDER);
+    check_closed(&rt, FOLDER, "fault Device A Length\n", "Device A Length\n");
+    made(&rt, FOLDER);
+    check_dump(&rt, FOLDER, 1, EMPTY);
+    check_dump(&rt, FOLDER, 1, EMPTY);
+    let holder = FileSite::open(&rt, rt.alloc(), FOLDER, NoOutlet).expect(&rt, "a site");
+    check_closed(&rt, FOLDER, "fault Device A Length\n", "Device A Length\n");
+    drop(holder);
+    check_dump(&rt, FOLDER, 1, EMPTY);
+    made(&rt, FOLDER);
+    made(&rt, "closed_folder/side-b");
+    check_closed(&rt, FOLDER, "fault Device B Length\n", "Device B Length\n");
+    remove(&rt, FOLDER);
+}
+
+// An empty file that nobody may read or write, as side B. Nothing holds off a root user, for whom it is an empty side.
 #[test]
 fn a_file_without_permission_is_not_opened(rt: HostRuntime) {
+    const FOLDER: &str = "folder_without_permission";
     const SIDE: &str = "folder_without_permission/side-b";
-    check_closed_file(&rt, "folder_without_permission", SIDE);
-}
-
-fn member_of_two() -> FormatWords<'static> {
-    FormatWords {
-        id: "1",
-        initial: Some("1,2"),
-        contacts: Some("3"),
-        beta: Some("1/2"),
-        gamma: Some("2/3"),
-        share: Some("32"),
-        cluster: None,
-    }
-}
-
-fn check_again<R: Abort + AllocGlobal + Files<File = File>>(rt: &R, folder: &str) {
-    made(rt, folder);
-    check_format(rt, folder, &member_of_two(), 0, "formatted 1\n");
-    check_format(rt, folder, &member_of_two(), 1, "AlreadyFormatted\n");
-    check_format(rt, folder, &entrant(), 1, "AlreadyFormatted\n");
-    remove(rt, folder);
-}
-
-#[test]
-fn a_folder_is_formatted_once(rt: HostRuntime) {
-    check_again(&rt, "folder_formatted_twice");
+    made(&rt, FOLDER);
+    fs::write(&rt, SIDE, b"").expect(&rt, "a file");
+    fs::set_permissions(&rt, SIDE, Permissions::from_mode(0)).expect(&rt, "a closed file");
+    let wanted = match File::open(&rt, SIDE) {
+        Ok(_) => EMPTY,
+        Err(_) => "fault Device B Length\n",
+    };
+    check_dump(&rt, FOLDER, 1, wanted);
+    remove(&rt, FOLDER);
 }
 
 // Words of the right form for nodes that can't begin: one without a name, one of no cluster, a list that doesn't ascend, a
@@ -205,87 +189,46 @@ const NO_NODES: [(WordFault, &str); 6] = [
     (WordFault::Share, "33"),
 ];
 
-fn check_no_nodes<R: Abort + AllocGlobal + Files<File = File>>(
-    rt: &R,
-    folder: &str,
-    rows: &[(WordFault, &str)],
-) {
-    for &(place, text) in rows {
-        let words = with(&entrant(), place, text);
-        check_format(rt, folder, &words, 1, "BadOpening\n");
-    }
-}
-
 #[test]
-fn no_node_begins_so(rt: HostRuntime) {
-    const FOLDER: &str = "folder_of_no_node";
+fn a_folder_is_formatted_once_for_a_node_that_can_begin(rt: HostRuntime) {
+    const FOLDER: &str = "folder_formatted_twice";
     made(&rt, FOLDER);
-    check_no_nodes(&rt, FOLDER, &NO_NODES);
-    check_empty(&rt, FOLDER);
+    for &(place, text) in &NO_NODES {
+        let words = with(&entrant(), place, text);
+        check_format(&rt, FOLDER, &words, 1, "BadOpening\n");
+    }
+    check_dump(&rt, FOLDER, 1, EMPTY);
+    check_format(&rt, FOLDER, &member(), 0, "formatted 1\n");
+    check_format(&rt, FOLDER, &member(), 1, "AlreadyFormatted\n");
+    check_format(&rt, FOLDER, &entrant(), 1, "AlreadyFormatted\n");
+    remove(&rt, FOLDER);
 }
 
-// Makes a folder, and formats it for member 1 of 1 of that share.
-fn format_by_share<R: Abort + AllocGlobal + Files<File = File>>(
+// Makes a folder, formats it for member 1 of 1 of that share, and gives its side A.
+fn side_of_share<R: Abort + AllocGlobal + Files<File = File>>(
     rt: &R,
-    folder: &str,
     share: Option<&str>,
-) {
+) -> Vec<u8> {
+    const FOLDER: &str = "folder_of_share";
     let member = with(&format_of("1"), WordFault::Initial, "1");
     let words = FormatWords { share, ..member };
-    made(rt, folder);
-    check_format(rt, folder, &words, 0, "formatted 1\n");
+    made(rt, FOLDER);
+    check_format(rt, FOLDER, &words, 0, "formatted 1\n");
+    let side = fs::read(rt, "folder_of_share/side-a").expect(rt, "a side");
+    remove(rt, FOLDER);
+    side
 }
 
-// Whether a side has the version and the length of the state of a node of share 1: it is kept as nodes were before there were
-// shares.
-fn has_no_share(side: &[u8]) -> bool {
-    let head = [2, 0, 0, 0, 119];
-    side.len() == 134 && side.get(9..14) == Some(head.as_slice())
-}
-
-// Whether two files hold the same side, and it has no share.
-fn have_no_share<R: Abort + AllocGlobal + Files>(rt: &R, one: &str, other: &str) -> bool {
-    let one = fs::read(rt, one).expect(rt, "a side");
-    let other = fs::read(rt, other).expect(rt, "a side");
-    one.as_slice() == other.as_slice() && has_no_share(&one)
-}
-
-fn check_shares<R: Abort + AllocGlobal + Files<File = File>>(rt: &R) {
-    format_by_share(rt, "folder_without_share", None);
-    format_by_share(rt, "folder_of_share_1", Some("1"));
-    assert!(rt;
-        have_no_share(
-            rt,
-            "folder_of_share_1/side-a",
-            "folder_without_share/side-a"
-        )
-    );
-    remove(rt, "folder_without_share");
-    remove(rt, "folder_of_share_1");
-}
-
-// A node without the word has the share 1.
-#[test]
-fn a_folder_of_share_1_is_as_one_without(rt: HostRuntime) {
-    check_shares(&rt);
-}
-
-// Whether the state of a side has the share 32, no others of a round, and no ask that waits, from place 74 on.
-fn has_share(side: &[u8]) -> bool {
-    let (head, share) = ([32, 0, 0, 0, 121], [32, 0, 0]);
-    side.len() == 136
-        && side.get(9..14) == Some(head.as_slice())
-        && side.get(88..91) == Some(share.as_slice())
-}
-
-fn check_share<R: Abort + AllocGlobal + Files<File = File>>(rt: &R, folder: &str, side: &str) {
-    format_by_share(rt, folder, Some("32"));
-    let side = fs::read(rt, side).expect(rt, "a side");
-    assert!(rt; has_share(&side));
-    remove(rt, folder);
-}
-
+// A node without the word has the share 1, and is kept as nodes were before there were shares: of the version and the length of
+// such a state. Of the share 32 the state has the share, no others of a round, and no ask that waits, from place 74 on.
 #[test]
 fn a_folder_keeps_its_share(rt: HostRuntime) {
-    check_share(&rt, "folder_of_share_32", "folder_of_share_32/side-a");
+    let without = side_of_share(&rt, None);
+    let of_1 = side_of_share(&rt, Some("1"));
+    let of_32 = side_of_share(&rt, Some("32"));
+    assert!(rt; of_1.as_slice() == without.as_slice() && of_1.len() == 134);
+    assert!(rt; of_1.get(9..14) == Some([2, 0, 0, 0, 119].as_slice()));
+    assert!(rt; of_32.len() == 136);
+    assert!(rt; of_32.get(9..14) == Some([32, 0, 0, 0, 121].as_slice()));
+    assert!(rt; of_32.get(88..91) == Some([32, 0, 0].as_slice()));
 }

@@ -6,26 +6,16 @@ mod disks;
 #[cfg(test)]
 mod faults;
 #[cfg(test)]
-mod folder_calls;
-#[cfg(test)]
 mod folders;
 #[cfg(test)]
 mod loads;
 #[cfg(test)]
 mod looks;
 #[cfg(test)]
-mod node_faults;
-#[cfg(test)]
-mod played;
-#[cfg(test)]
 mod sites;
-#[cfg(test)]
-mod streams;
 #[cfg(test)]
 mod told_folders;
 #[cfg(test)]
 mod told_words;
-#[cfg(test)]
-mod warnings;
 #[cfg(test)]
 mod words;

@@ -1,26 +1,19 @@
-//! What is told of words that are no command, and of beginnings that no node has.
+//! What is told of words that are no command, of beginnings that no node has, and of those that an operator may not want.
 
-use crate::words::{are_no_command, format_of, with};
-use cc_commands::{BadOpening, FormatOrder};
+use crate::words::{format_of, with};
+use cc_commands::{BadOpening, FormatOrder, Warning};
 use cc_node::OpeningRule;
-use cc_orders::{AnswerForm, AskWords, CommandFault, FormatWords, WordFault};
+use cc_orders::{AnswerForm, AskOrder, AskWords, CommandFault, FormatWords, WordFault};
 use std::process::Abort;
 
-const LONGER_TEXT: &str = "0123456789abcdef0123456789abcdef0123456789abcdef0123456789abcdef.";
-
-fn told<R: Abort + AllocGlobal>(rt: &R, words: &AskWords<'_>) -> String {
-    let fault = CommandFault::of(rt.alloc(), words).expect(rt, "a fault");
-    format!(in rt.alloc(); "{fault}").expect(rt, "a text")
-}
-
-// Whether a command with that value and that text is none, and just this is told of it.
-fn is_told<'a, R: Abort + AllocGlobal>(
+// A command with that value and that text is none, and just this is told of it.
+fn check_told<'a, R: Abort + AllocGlobal>(
     rt: &R,
     command: &'a str,
     value: Option<&'a str>,
     text: Option<&'a str>,
     wanted: &str,
-) -> bool {
+) {
     let words = AskWords {
         address: "127.0.0.1:7001",
         session: "7",
@@ -34,22 +27,16 @@ fn is_told<'a, R: Abort + AllocGlobal>(
         snapshot: false,
         status: None,
     };
-    let told = told(rt, &words);
-    told.as_str() == wanted && are_no_command(&words)
+    let fault = CommandFault::of(rt.alloc(), &words).expect(rt, "a fault");
+    let told = format!(in rt.alloc(); "{fault}").expect(rt, "a text");
+    assert!(rt; told.as_str() == wanted, "{wanted}");
+    assert!(rt;
+        AskOrder::parse(&words) == Err(WordFault::Command),
+        "{wanted}"
+    );
 }
 
-// The same of one by itself, of one with a value, and of one with a text.
-fn check_alone<R: Abort + AllocGlobal>(rt: &R, command: &str, wanted: &str) {
-    assert!(rt; is_told(rt, command, None, None, wanted), "{wanted}");
-}
-
-fn check_value<'a, R: Abort + AllocGlobal>(rt: &R, command: &'a str, value: &'a str, wanted: &str) {
-    assert!(rt; is_told(rt, command, Some(value), None, wanted), "{wanted}");
-}
-
-fn check_text<'a, R: Abort + AllocGlobal>(rt: &R, command: &'a str, text: &'a str, wanted: &str) {
-    assert!(rt; is_told(rt, command, None, Some(text), wanted), "{wanted}");
-}
+const LONGER_TEXT: &str = "0123456789abcdef0123456789abcdef0123456789abcdef0123456789abcdef.";
 
 const LONGER: &str = "store takes 1 to 64 bytes; this has 65";
 
@@ -61,28 +48,17 @@ const BOTH: &str = "store takes a word or --text, not both";
 
 #[test]
 fn a_bad_text_is_told_as_what_it_is(rt: HostRuntime) {
-    check_alone(&rt, "store", "store takes a value");
-    check_value(&rt, "store", LONGER_TEXT, LONGER);
-    check_text(&rt, "store", LONGER_TEXT, LONGER);
-    check_text(&rt, "store", "", EMPTY);
-    check_value(&rt, "store", "two words", UNSEEN);
-    assert!(rt; is_told(&rt, "store", Some("a"), Some("b"), BOTH));
+    check_told(&rt, "store", None, None, "store takes a value");
+    check_told(&rt, "store", Some(LONGER_TEXT), None, LONGER);
+    check_told(&rt, "store", None, Some(LONGER_TEXT), LONGER);
+    check_told(&rt, "store", None, Some(""), EMPTY);
+    check_told(&rt, "store", Some("two words"), None, UNSEEN);
+    check_told(&rt, "store", Some("a"), Some("b"), BOTH);
 }
 
 const U64S: &str = "max takes a number from 0 to 18446744073709551615";
 
 const U32S: &str = "add takes a number from 0 to 4294967295";
-
-#[test]
-fn a_bad_value_is_told_as_what_it_is(rt: HostRuntime) {
-    check_alone(&rt, "max", "max takes a value");
-    check_value(&rt, "max", "-1", U64S);
-    check_value(&rt, "add", "4294967296", U32S);
-    check_text(&rt, "add", "5", "add takes no --text, as store does");
-    check_value(&rt, "collect", "a", "collect takes no value");
-    check_value(&rt, "readmax", "9", "readmax takes no value");
-    check_value(&rt, "snapshot", "a", "snapshot takes no value");
-}
 
 // Commands that are none, and what is told of each by itself.
 const NO_COMMANDS: [(&str, &str); 4] = [
@@ -99,29 +75,30 @@ const NO_COMMANDS: [(&str, &str); 4] = [
 ];
 
 #[test]
-fn a_bad_command_is_told_as_what_it_is(rt: HostRuntime) {
-    check_value(&rt, "stor", "a", "stor is no command; did you mean store?");
+fn a_bad_value_or_command_is_told_as_what_it_is(rt: HostRuntime) {
+    check_told(&rt, "max", None, None, "max takes a value");
+    check_told(&rt, "max", Some("-1"), None, U64S);
+    check_told(&rt, "add", Some("4294967296"), None, U32S);
+    check_told(
+        &rt,
+        "add",
+        None,
+        Some("5"),
+        "add takes no --text, as store does",
+    );
+    check_told(&rt, "collect", Some("a"), None, "collect takes no value");
+    check_told(&rt, "readmax", Some("9"), None, "readmax takes no value");
+    check_told(&rt, "snapshot", Some("a"), None, "snapshot takes no value");
+    check_told(
+        &rt,
+        "stor",
+        Some("a"),
+        None,
+        "stor is no command; did you mean store?",
+    );
     for &(command, wanted) in &NO_COMMANDS {
-        check_alone(&rt, command, wanted);
+        check_told(&rt, command, None, None, wanted);
     }
-}
-
-fn member() -> FormatWords<'static> {
-    with(&format_of("1"), WordFault::Initial, "1,2,3")
-}
-
-fn rule_of<R: Abort + AllocGlobal>(rt: &R, words: &FormatWords<'_>) -> Option<OpeningRule> {
-    let order = FormatOrder::parse(rt.alloc(), words).expect(rt, "an order");
-    let rule = order.opening().broken_rule();
-    drop(order);
-    rule
-}
-
-// Whether just this is told of that rule.
-fn is_told_of<R: Abort + AllocGlobal>(rt: &R, rule: OpeningRule, wanted: &str) -> bool {
-    let rule = BadOpening(rule);
-    let told = format!(in rt.alloc(); "{rule}").expect(rt, "a text");
-    told.as_str() == wanted
 }
 
 // A place, a text for it, the rule that a beginning with that text breaks first, and what is told of it.
@@ -178,10 +155,51 @@ const BAD_BEGINNINGS: [(WordFault, &str, OpeningRule, &str); 8] = [
 
 #[test]
 fn a_bad_beginning_is_told_by_its_rule(rt: HostRuntime) {
-    assert!(rt; rule_of(&rt, &member()) == None);
+    let member = with(&format_of("1"), WordFault::Initial, "1,2,3");
     for &(place, text, rule, wanted) in &BAD_BEGINNINGS {
-        let told = rule_of(&rt, &with(&member(), place, text));
-        assert!(rt; told == Some(rule), "{text}");
-        assert!(rt; is_told_of(&rt, rule, wanted), "{text}");
+        let words = with(&member, place, text);
+        let order = FormatOrder::parse(rt.alloc(), &words).expect(&rt, "an order");
+        let broken = order.opening().broken_rule();
+        drop(order);
+        assert!(rt; broken == Some(rule), "{text}");
+        let told = format!(in rt.alloc(); "{}", BadOpening(rule)).expect(&rt, "a text");
+        assert!(rt; told.as_str() == wanted, "{text}");
     }
+}
+
+const NOTHING: [Option<Warning>; 3] = [None, None, None];
+
+// Just this is told of the members at the start, the contacts and β of a node.
+fn check_warned<'a, R: Abort + AllocGlobal>(
+    rt: &R,
+    initial: Option<&'a str>,
+    contacts: Option<&'a str>,
+    beta: Option<&'a str>,
+    wanted: [Option<Warning>; 3],
+) {
+    let words = FormatWords {
+        initial,
+        contacts,
+        beta,
+        ..format_of("1")
+    };
+    let order = FormatOrder::parse(rt.alloc(), &words).expect(rt, "an order");
+    let warnings = order.warnings();
+    drop(order);
+    assert!(rt; warnings == wanted);
+}
+
+// A node that has other members at the start, and one that has none.
+#[test]
+fn an_operator_is_warned(rt: HostRuntime) {
+    let all = [None, Some(Warning::All), None];
+    let half = [Some(Warning::Half), None, None];
+    let alone = [None, None, Some(Warning::Alone)];
+    check_warned(&rt, Some("1,2,3"), None, None, all);
+    check_warned(&rt, Some("1,2,3"), None, Some("2/3"), NOTHING);
+    check_warned(&rt, Some("1,2,3,4,5"), None, None, NOTHING);
+    check_warned(&rt, Some("1,2,3"), None, Some("1/2"), half);
+    check_warned(&rt, Some("1"), None, None, NOTHING);
+    check_warned(&rt, None, Some("1"), None, NOTHING);
+    check_warned(&rt, None, None, None, alone);
 }

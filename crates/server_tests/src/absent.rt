@@ -1,13 +1,12 @@
 //! Two of three members go on without the third, which is started late or never.
 
 use crate::asking::{DONE, check_asked, is_asked, is_retired, order, retirement};
-use crate::nodes::{
-    Place, Places, format_member_of, free_place, run, set_up_of, while_one_runs, while_two_run,
-};
+use crate::nodes::{Place, format, free_place, peer, run, while_one_runs, while_two_run};
+use cc_addresses::Address;
 use cc_flags::Stop;
 use cc_intake::NoHooks;
 use std::alloc::Global;
-use std::net::{Net, SocketAddr, TcpListener, TcpStream};
+use std::net::{Net, TcpListener, TcpStream};
 use std::process::Abort;
 use std::sync::Wait;
 use std::test::*;
@@ -21,7 +20,7 @@ const STORES: u64 = 300;
 // They are answered in so many seconds, also where the machine is busy. If nothing lapsed they would take minutes.
 const MOST_SECONDS: u64 = 40;
 
-fn store_all<R: Abort + AllocGlobal + Net<Stream = TcpStream> + Clock>(rt: &R, one: SocketAddr) {
+fn store_all<R: Abort + AllocGlobal + Net<Stream = TcpStream> + Clock>(rt: &R, one: Address) {
     let start = Instant::now(rt).expect(rt, "a clock");
     for _ in 0..STORES {
         check_asked(rt, one, &["store", "a"], "Stored\n");
@@ -34,20 +33,26 @@ fn store_all<R: Abort + AllocGlobal + Net<Stream = TcpStream> + Clock>(rt: &R, o
 // What was stored without it is in what the third member collects.
 #[test]
 fn two_members_go_on_and_the_third_comes_late(rt: HostRuntime) {
-    format_member_of(&rt, "absent-3", "3", "1,2,3", Some("2/3"));
+    format(&rt, "absent-1", "1", "1,2,3", Some("2/3"), None);
+    format(&rt, "absent-2", "2", "1,2,3", Some("2/3"), None);
+    format(&rt, "absent-3", "3", "1,2,3", Some("2/3"), None);
+    let Place {
+        listener: first,
+        address: one,
+    } = free_place(&rt);
+    let Place {
+        listener: second,
+        address: two,
+    } = free_place(&rt);
     let Place {
         listener: third,
         address: three,
     } = free_place(&rt);
-    let Places {
-        first,
-        second,
-        one,
-        two,
-    } = set_up_of(&rt, "absent-1", "absent-2", "1,2,3", Some("2/3"));
+    let (at_1, at_2, at_3) = (Address::from(one), Address::from(two), Address::from(three));
+    let of_1 = [peer(&rt, 2, at_2), peer(&rt, 3, at_3)];
+    let of_2 = [peer(&rt, 1, at_1), peer(&rt, 3, at_3)];
+    let of_3 = [peer(&rt, 1, at_1), peer(&rt, 2, at_2)];
     let (stop, late) = (Stop::new(), Stop::new());
-    let (of_1, of_2) = ([(2, two), (3, three)], [(1, one), (3, three)]);
-    let of_3 = [(1, one), (2, two)];
     let alloc = rt.alloc();
     while_two_run(
         &rt,
@@ -56,20 +61,20 @@ fn two_members_go_on_and_the_third_comes_late(rt: HostRuntime) {
         || run(&rt, alloc, "absent-1", first, &of_1, &stop, &NoHooks),
         || run(&rt, alloc, "absent-2", second, &of_2, &stop, &NoHooks),
         || {
-            store_all(&rt, one);
+            store_all(&rt, at_1);
             while_one_runs(
                 &rt,
                 &late,
                 three,
                 || run(&rt, alloc, "absent-3", third, &of_3, &late, &NoHooks),
-                || check_asked(&rt, three, &["collect"], "Seen [1:300=a/0/0/]\n"),
+                || check_asked(&rt, at_3, &["collect"], "Seen [1:300=a/0/0/]\n"),
             );
         },
     );
 }
 
 // After a second node 1 is told that node 3 is dead. The store needs all three members as it begins.
-fn store_and_retire_late<R>(rt: &R, alloc: Global, one: SocketAddr)
+fn store_and_retire_late<R>(rt: &R, alloc: Global, one: Address)
 where
     R: Abort
         + AllocGlobal
@@ -96,28 +101,26 @@ where
 
 #[test]
 fn a_store_begins_anew_once_the_dead_member_is_retired(rt: HostRuntime) {
-    let Places {
-        first,
-        second,
-        one,
-        two,
-    } = set_up_of(&rt, "retired-1", "retired-2", "1,2,3", None);
+    format(&rt, "retired-1", "1", "1,2,3", None, None);
+    format(&rt, "retired-2", "2", "1,2,3", None, None);
+    let Place {
+        listener: first,
+        address: one,
+    } = free_place(&rt);
+    let Place {
+        listener: second,
+        address: two,
+    } = free_place(&rt);
+    let of_1 = [peer(&rt, 2, Address::from(two))];
+    let of_2 = [peer(&rt, 1, Address::from(one))];
     let stop = Stop::new();
     let alloc = rt.alloc();
     while_two_run(
         &rt,
         &stop,
         [one, two],
-        || run(&rt, alloc, "retired-1", first, &[(2, two)], &stop, &NoHooks),
-        || run(
-            &rt,
-            alloc,
-            "retired-2",
-            second,
-            &[(1, one)],
-            &stop,
-            &NoHooks,
-        ),
-        || store_and_retire_late(&rt, alloc, one),
+        || run(&rt, alloc, "retired-1", first, &of_1, &stop, &NoHooks),
+        || run(&rt, alloc, "retired-2", second, &of_2, &stop, &NoHooks),
+        || store_and_retire_late(&rt, alloc, Address::from(one)),
     );
 }

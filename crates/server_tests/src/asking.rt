@@ -1,29 +1,27 @@
 //! Clients of a node that runs: what they print, and the status that they end with.
 
-use crate::nodes::{Places, free_address, run, set_up, while_two_run};
+use crate::nodes::free_address;
 use cc_addresses::Address;
 use cc_client::{Silence, Told, ask_node, leave_node, retire_node, share_node};
-use cc_flags::Stop;
-use cc_intake::NoHooks;
 use cc_messages::Share;
 use cc_orders::{AnswerForm, AskOrder, LeaveOrder, RetireOrder, ShareOrder};
 use cc_views::NodeId;
 use cc_words::command;
 use std::alloc::Global;
 use std::io;
-use std::net::{Net, SocketAddr, TcpStream};
+use std::net::{Net, TcpStream};
 use std::process::Abort;
 use std::test::*;
 use std::time::Clock;
 
-// What is asked of node 1 in turn, and what its client prints.
+// What is asked of node 1 in turn behind two stores, and what its client prints.
 const ASKED: [(&[&str], &str); 9] = [
     (&["store", "a=b"], "Stored\n"),
     (&["max", "9"], "Stored\n"),
     (&["max", "3"], "Stored\n"),
     (&["flag"], "Stored\n"),
     (&["add", "5"], "Stored\n"),
-    (&["collect"], "Seen [1:5=a%3db/9/1/5]\n"),
+    (&["collect"], "Seen [1:7=a%3db/9/1/5]\n"),
     (&["readmax"], "Max 9\n"),
     (&["readflag"], "Flag 1\n"),
     (&["readset"], "Set [5]\n"),
@@ -36,7 +34,7 @@ const ASKED_AS_JSON: [(&[&str], Option<u64>, Told, &str); 7] = [
         &["collect"],
         None,
         DONE,
-        "{\"answer\":\"Seen\",\"view\":[{\"node\":1,\"number\":\"5\",\"text\":\"a=b\",\"max\":\"9\",\"flag\":true,\"set\":[5]}]}\n",
+        "{\"answer\":\"Seen\",\"view\":[{\"node\":1,\"number\":\"7\",\"text\":\"a=b\",\"max\":\"9\",\"flag\":true,\"set\":[5]}]}\n",
     ),
     (
         &["readmax"],
@@ -71,7 +69,7 @@ const SNAPSHOTS: [(&[&str], AnswerForm, &str); 5] = [
     (
         &["collect"],
         AnswerForm::Plain,
-        "Seen [1:6=a%3db/9/1/5+6]\ncollects 2\n",
+        "Seen [1:8=a%3db/9/1/5+6]\ncollects 2\n",
     ),
     (&["readmax"], AnswerForm::Plain, "Max 9\ncollects 2\n"),
     (&["readflag"], AnswerForm::Plain, "Flag 1\ncollects 2\n"),
@@ -133,12 +131,12 @@ pub(crate) fn is_retired<R: Net<Stream = TcpStream> + Clock>(
 /// The node there is told that this one is dead.
 pub(crate) fn retirement<R: Abort + AllocGlobal>(
     rt: &R,
-    address: SocketAddr,
+    address: Address,
     node: u32,
     even_alive: bool,
 ) -> RetireOrder {
     RetireOrder {
-        addresses: vec![in rt.alloc(); Address::from(address)].expect(rt, "room"),
+        addresses: vec![in rt.alloc(); address].expect(rt, "room"),
         node: NodeId::new(node).expect(rt, "an id"),
         even_alive,
     }
@@ -147,14 +145,12 @@ pub(crate) fn retirement<R: Abort + AllocGlobal>(
 fn is_left<R: Net<Stream = TcpStream> + Clock>(
     rt: &R,
     alloc: Global,
-    address: SocketAddr,
+    address: Address,
     told: Told,
     wanted: &str,
 ) -> bool {
     let mut output = Vec::new(alloc);
-    let order = LeaveOrder {
-        address: Address::from(address),
-    };
+    let order = LeaveOrder { address };
     let ended = leave_node(rt, alloc, &order, &mut output);
     is_told(ended, &output, told, wanted)
 }
@@ -162,12 +158,12 @@ fn is_left<R: Net<Stream = TcpStream> + Clock>(
 // Tells a node its share, and whether the client ends so, and prints this.
 fn is_shared<R: Abort + AllocGlobal + Net<Stream = TcpStream> + Clock>(
     rt: &R,
-    address: SocketAddr,
+    address: Address,
     told: Told,
     wanted: &str,
 ) -> bool {
     let order = ShareOrder {
-        address: Address::from(address),
+        address,
         share: Share::new(8).expect(rt, "a share"),
     };
     let mut output = Vec::new(rt.alloc());
@@ -175,21 +171,16 @@ fn is_shared<R: Abort + AllocGlobal + Net<Stream = TcpStream> + Clock>(
     is_told(ended, &output, told, wanted)
 }
 
-/// What a client of session 7 asks for, who waits for so many seconds at most.
-pub(crate) fn order<R: Abort>(
-    rt: &R,
-    address: SocketAddr,
-    words: &[&str],
-    timeout: u64,
-) -> AskOrder {
+/// What a client of session 6 asks for, who waits for so many seconds at most.
+pub(crate) fn order<R: Abort>(rt: &R, address: Address, words: &[&str], timeout: u64) -> AskOrder {
     let command = command(words).expect(rt, "a command");
-    AskOrder::new(Address::from(address), 7, command, timeout)
+    AskOrder::new(address, 6, command, timeout)
 }
 
-/// A client of session 7 asks, and prints this.
+/// A client of session 6 asks, and prints this.
 pub(crate) fn check_asked<R: Abort + AllocGlobal + Net<Stream = TcpStream> + Clock>(
     rt: &R,
-    address: SocketAddr,
+    address: Address,
     words: &[&str],
     wanted: &str,
 ) {
@@ -197,14 +188,15 @@ pub(crate) fn check_asked<R: Abort + AllocGlobal + Net<Stream = TcpStream> + Clo
     assert!(rt; is_asked(rt, rt.alloc(), &order, DONE, wanted), "{wanted}");
 }
 
-// All commands, one after the other, in one session.
-fn ask_all<R: Abort + AllocGlobal + Net<Stream = TcpStream> + Clock>(rt: &R, one: SocketAddr) {
+/// All commands, one after the other, in one session; as JSON; and of snapshots. Then node 1 is told its share, twice: what was
+/// done before is told once more.
+pub(crate) fn ask_all<R: Abort + AllocGlobal + Net<Stream = TcpStream> + Clock>(
+    rt: &R,
+    one: Address,
+) {
     for &(words, wanted) in &ASKED {
         check_asked(rt, one, words, wanted);
     }
-}
-
-fn ask_for_json<R: Abort + AllocGlobal + Net<Stream = TcpStream> + Clock>(rt: &R, one: SocketAddr) {
     for &(words, request, told, wanted) in &ASKED_AS_JSON {
         let order = AskOrder {
             request,
@@ -213,12 +205,6 @@ fn ask_for_json<R: Abort + AllocGlobal + Net<Stream = TcpStream> + Clock>(rt: &R
         };
         assert!(rt; is_asked(rt, rt.alloc(), &order, told, wanted), "{wanted}");
     }
-}
-
-fn ask_for_snapshots<R: Abort + AllocGlobal + Net<Stream = TcpStream> + Clock>(
-    rt: &R,
-    one: SocketAddr,
-) {
     for &(words, form, wanted) in &SNAPSHOTS {
         let order = AskOrder {
             snapshot: true,
@@ -227,99 +213,47 @@ fn ask_for_snapshots<R: Abort + AllocGlobal + Net<Stream = TcpStream> + Clock>(
         };
         assert!(rt; is_asked(rt, rt.alloc(), &order, DONE, wanted), "{wanted}");
     }
-}
-
-// The operator at node 1, twice with each order: what was done before is told once more.
-fn operate<R: Abort + AllocGlobal + Net<Stream = TcpStream> + Clock>(rt: &R, one: SocketAddr) {
-    let order = retirement(rt, one, 2, true);
-    for _ in 0..2 {
-        assert!(rt;
-            is_retired(rt, rt.alloc(), &order, DONE, "retired 2\n"),
-            "retired 2"
-        );
-    }
-    for _ in 0..2 {
-        assert!(rt; is_left(rt, rt.alloc(), one, DONE, "left\n"), "left");
-    }
-    assert!(rt;
-        is_retired(rt, rt.alloc(), &order, REFUSED, "refused 1 Left\n"),
-        "a node that has left retires nobody"
-    );
-    drop(order);
-}
-
-// Clients and the operator at node 1. Who has left serves no client.
-fn talk<R: Abort + AllocGlobal + Net<Stream = TcpStream> + Clock>(rt: &R, one: SocketAddr) {
-    ask_all(rt, one);
-    ask_for_json(rt, one);
-    ask_for_snapshots(rt, one);
     for _ in 0..2 {
         assert!(rt; is_shared(rt, one, DONE, "share 8\n"), "a share");
     }
-    operate(rt, one);
-    assert!(rt;
-        is_shared(rt, one, REFUSED, "refused 1 Left\n"),
-        "a share of who has left"
-    );
-    let late = order(rt, one, &["collect"], 20);
-    assert!(rt;
-        is_asked(rt, rt.alloc(), &late, REFUSED, "refused 1 Left\n"),
-        "who has left"
-    );
 }
 
-#[test]
-fn clients_print_what_a_node_answers(rt: HostRuntime) {
-    let Places {
-        first,
-        second,
-        one,
-        two,
-    } = set_up(&rt, "asked-1", "asked-2");
-    let stop = Stop::new();
-    let alloc = rt.alloc();
-    while_two_run(
-        &rt,
-        &stop,
-        [one, two],
-        || run(&rt, alloc, "asked-1", first, &[(2, two)], &stop, &NoHooks),
-        || run(&rt, alloc, "asked-2", second, &[(1, one)], &stop, &NoHooks),
-        || talk(&rt, one),
-    );
-}
-
-// No answer comes to an ask, in either form, nor to an order to leave.
-fn check_no_answer<R: Abort + AllocGlobal + Net<Stream = TcpStream> + Clock>(
+/// The operator at node 1, twice with each order. Who has left retires nobody, and serves no client.
+pub(crate) fn operate<R: Abort + AllocGlobal + Net<Stream = TcpStream> + Clock>(
     rt: &R,
-    nobody: SocketAddr,
+    one: Address,
 ) {
+    let retire = retirement(rt, one, 2, true);
+    let late = order(rt, one, &["collect"], 20);
+    let alloc = rt.alloc();
+    for _ in 0..2 {
+        assert!(rt; is_retired(rt, alloc, &retire, DONE, "retired 2\n"));
+    }
+    for _ in 0..2 {
+        assert!(rt; is_left(rt, alloc, one, DONE, "left\n"));
+    }
+    assert!(rt; is_retired(rt, alloc, &retire, REFUSED, "refused 1 Left\n"));
+    drop(retire);
+    assert!(rt; is_shared(rt, one, REFUSED, "refused 1 Left\n"));
+    assert!(rt; is_asked(rt, alloc, &late, REFUSED, "refused 1 Left\n"));
+}
+
+// Nothing listens at the port of a listener that is gone: no answer comes to an ask, in either form, nor to an order to leave.
+#[test]
+fn clients_give_up_where_no_answer_comes(rt: HostRuntime) {
+    let nobody = Address::from(free_address(&rt));
     let closed = Told {
         status: 1,
-        silence: Some(Silence::Closed(Address::from(nobody))),
+        silence: Some(Silence::Closed(nobody)),
         advice: None,
     };
-    let plain = order(rt, nobody, &["collect"], 1);
+    let plain = order(&rt, nobody, &["collect"], 1);
     let json = AskOrder {
         form: AnswerForm::Json,
         ..plain
     };
     let alloc = rt.alloc();
-    assert!(rt;
-        is_asked(rt, alloc, &plain, closed, "no answer\n"),
-        "no answer"
-    );
-    assert!(rt;
-        is_asked(rt, alloc, &json, closed, "{\"no_answer\":true}\n"),
-        "no answer as JSON"
-    );
-    assert!(rt;
-        is_left(rt, alloc, nobody, closed, "no answer\n"),
-        "no answer to a leave"
-    );
-}
-
-// Nothing listens at the port of a listener that is gone.
-#[test]
-fn clients_give_up_where_no_answer_comes(rt: HostRuntime) {
-    check_no_answer(&rt, free_address(&rt));
+    assert!(rt; is_asked(&rt, alloc, &plain, closed, "no answer\n"));
+    assert!(rt; is_asked(&rt, alloc, &json, closed, "{\"no_answer\":true}\n"));
+    assert!(rt; is_left(&rt, alloc, nobody, closed, "no answer\n"));
 }

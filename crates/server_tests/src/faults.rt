@@ -1,6 +1,7 @@
 //! Why a node doesn't run: each fault, and its text.
 
-use crate::nodes::{Setting, config_of, format_member, free_address, free_place};
+use crate::nodes::{Setting, config_of, format, free_place, peer};
+use cc_addresses::Address;
 use cc_checkpoint::OpenFault;
 use cc_flags::Stop;
 use cc_flush::Failed;
@@ -52,17 +53,11 @@ const CANNOT_BEGIN: [(&str, RunFault); 3] = [
     ("own-folder", RunFault::Listen),
 ];
 
-fn is_text_of<R: Abort + AllocGlobal>(rt: &R, fault: RunFault, wanted: &str) -> bool {
-    format!(in rt.alloc(); "{fault}")
-        .expect(rt, "a text")
-        .as_str()
-        == wanted
-}
-
 #[test]
 fn faults_of_a_run_print_their_texts(rt: HostRuntime) {
     for &(fault, wanted) in &TEXTS {
-        assert!(rt; is_text_of(&rt, fault, wanted), "{wanted}");
+        let text = format!(in rt.alloc(); "{fault}").expect(&rt, "a text");
+        assert!(rt; text.as_str() == wanted, "{wanted}");
     }
 }
 
@@ -86,26 +81,22 @@ where
     assert!(rt; fault == Some(wanted), "why a node doesn't run");
 }
 
+// A node is no peer of itself either: by its own id, and by its own address under the id of another.
 #[test]
 fn a_node_that_cannot_begin_says_why(rt: HostRuntime) {
     let _ = fs::remove_dir_all(&rt, "empty-folder");
     fs::create_dir(&rt, "empty-folder").expect(&rt, "a folder");
-    format_member(&rt, "own-folder", "1");
+    format(&rt, "own-folder", "1", "1,2", None, None);
     let taken = free_place(&rt);
     for &(folder, fault) in &CANNOT_BEGIN {
         check_fault(&rt, &Setting::of(folder, taken.address, &[]), fault);
     }
-}
-
-// The node's own id, and its own address under the id of another.
-#[test]
-fn a_node_is_no_peer_of_itself(rt: HostRuntime) {
-    let listen = free_address(&rt);
-    let elsewhere = free_address(&rt);
-    format_member(&rt, "folder-of-a-peer", "1");
-    for &peer in &[(1, elsewhere), (2, listen)] {
-        let peers = [peer];
-        let setting = Setting::of("folder-of-a-peer", listen, &peers);
+    let own = Address::from(taken.address);
+    let elsewhere = Address::from(free_place(&rt).address);
+    for &(number, address) in &[(1, elsewhere), (2, own)] {
+        let peers = [peer(&rt, number, address)];
+        let setting = Setting::of("own-folder", taken.address, &peers);
         check_fault(&rt, &setting, RunFault::OwnPeer);
     }
+    drop(taken);
 }

@@ -1,8 +1,8 @@
 //! Greetings between nodes: who is taken, what is sent before, and that an old copy of a folder ends.
 
 use crate::clients::{ends, sent};
-use crate::nodes::{Place, Setting, format_member, free_place, run_with, while_one_runs};
-use cc_addresses::ClusterName;
+use crate::nodes::{Place, Setting, format, free_place, peer, run_with, while_one_runs};
+use cc_addresses::{Address, ClusterName, Peer};
 use cc_flags::Stop;
 use cc_intake::{Finished, NoHooks};
 use cc_server::RunFault;
@@ -40,8 +40,8 @@ const ACK_OF_3: [u8; 17] = [0, 0, 0, 13, 2, 0, 0, 0, 3, 0, 0, 0, 0, 0, 0, 0, 0];
 // The operator retires node 2.
 const RETIRE_2: [u8; 9] = [0, 0, 0, 5, 7, 0, 0, 0, 2];
 
-// A byte of the greeting that has another value, and the reason for which it isn't welcome: another cluster, another node, the own
-// id, another birth, another beta and another gamma.
+// A byte of the greeting that has another value, and the reason for which it isn't welcome: another cluster, another node, the
+// own id, another birth, another beta and another gamma.
 const UNWELCOME: [(usize, u8, u8); 6] = [
     (6, 99, 1),
     (17, 3, 2),
@@ -61,45 +61,12 @@ pub(crate) fn greeted<R: Abort>(rt: &R, peer: &Place) -> TcpStream {
     stream
 }
 
-// What node 1 is refused with for that reason.
-fn refusal(reason: u8) -> [u8; 10] {
-    [0, 0, 0, 6, 35, reason, 0, 0, 0, 1]
-}
-
 // The node of a folder, with birth 5 in the cluster `blue`.
 fn blue<R: Abort>(rt: &R) -> Identity {
     Identity {
         cluster: ClusterName::new(b"blue").ok().expect(rt, "a name"),
         birth: 5,
     }
-}
-
-// Runs the node of a folder as such a one, with these peers, until the flag is set.
-fn run_as<R>(
-    rt: &R,
-    alloc: Global,
-    folder: &str,
-    identity: Identity,
-    listener: TcpListener,
-    peers: &[(u32, SocketAddr)],
-    stop: &Stop,
-) -> Result<Finished<()>, RunFault>
-where
-    R: Files<File = File>
-        + Net<Listener = TcpListener, Stream = TcpStream>
-        + Threads
-        + Wait
-        + Clock
-        + ReadText
-        + Log
-        + Sync,
-{
-    let listen = listener.local_addr().or(Err(RunFault::Listen))?;
-    let setting = Setting {
-        identity,
-        ..Setting::of(folder, listen, peers)
-    };
-    run_with(rt, alloc, &setting, listener, stop, &NoHooks)
 }
 
 // What comes back over a connection.
@@ -117,11 +84,12 @@ fn check_refused<R: Abort + Net<Stream = TcpStream>>(
     reason: u8,
 ) {
     let mut stream = sent(rt, node, hello);
-    check_read(rt, &mut stream, &refusal(reason));
+    // Node 1 isn't taken, for that reason.
+    check_read(rt, &mut stream, &[0, 0, 0, 6, 35, reason, 0, 0, 0, 1]);
     assert!(rt; ends(&mut stream), "a node that isn't taken is hung up on");
 }
 
-// Who greets, and who doesn't.
+// Who greets, and who doesn't. A node that has left isn't taken: the flusher tells of it at each tick.
 fn visit<R: Abort + Clock + Net<Stream = TcpStream>>(rt: &R, node: SocketAddr) {
     let mut ungreeted = sent(rt, node, &ACK_OF_2);
     assert!(rt; ends(&mut ungreeted), "nothing is taken before a greeting");
@@ -142,36 +110,10 @@ fn visit<R: Abort + Clock + Net<Stream = TcpStream>>(rt: &R, node: SocketAddr) {
         check_refused(rt, node, &hello, reason);
     }
     drop((ungreeted, stream, twice));
-}
-
-// A node that has left isn't taken: the flusher tells of it at each tick.
-fn retire_2<R: Abort + Clock + Net<Stream = TcpStream>>(rt: &R, node: SocketAddr) {
     let retiring = sent(rt, node, &RETIRE_2);
     thread::sleep(rt, Duration::from_millis(2200));
     check_refused(rt, node, &HELLO, 6);
     drop(retiring);
-}
-
-#[test]
-fn a_node_is_taken_as_a_node_of_the_same_cluster_alone(rt: HostRuntime) {
-    format_member(&rt, "greeting-1", "1");
-    let alloc = rt.alloc();
-    let Place {
-        listener,
-        address: node,
-    } = free_place(&rt);
-    let identity = blue(&rt);
-    let stop = Stop::new();
-    while_one_runs(
-        &rt,
-        &stop,
-        node,
-        || run_as(&rt, alloc, "greeting-1", identity, listener, &[], &stop),
-        || {
-            visit(&rt, node);
-            retire_2(&rt, node);
-        },
-    );
 }
 
 // Nothing comes behind a greeting until it is answered, and then a sign of life does.
@@ -197,26 +139,57 @@ fn take<R: Abort + Net<Stream = TcpStream>>(rt: &R, peer: &Place) {
     drop(stream);
 }
 
+// Runs the node of a folder with that identity until the flag is set.
+fn run_as<R>(
+    rt: &R,
+    alloc: Global,
+    folder: &str,
+    identity: Identity,
+    listener: TcpListener,
+    peers: &[Peer],
+    stop: &Stop,
+) -> Result<Finished<()>, RunFault>
+where
+    R: Files<File = File>
+        + Net<Listener = TcpListener, Stream = TcpStream>
+        + Threads
+        + Wait
+        + Clock
+        + ReadText
+        + Log
+        + Sync,
+{
+    let listen = listener.local_addr().or(Err(RunFault::Listen))?;
+    let setting = Setting {
+        identity,
+        ..Setting::of(folder, listen, peers)
+    };
+    run_with(rt, alloc, &setting, listener, stop, &NoHooks)
+}
+
 #[test]
-fn nothing_is_sent_before_a_welcome(rt: HostRuntime) {
-    format_member(&rt, "greeting-2", "1");
-    let alloc = rt.alloc();
-    let peer = free_place(&rt);
+fn a_node_is_taken_as_a_node_of_the_same_cluster_alone(rt: HostRuntime) {
+    format(&rt, "greeting-1", "1", "1,2", None, None);
+    let second = free_place(&rt);
     let Place {
         listener,
         address: node,
     } = free_place(&rt);
-    let peers = [(2, peer.address)];
+    let peers = [peer(&rt, 2, Address::from(second.address))];
     let identity = blue(&rt);
     let stop = Stop::new();
+    let alloc = rt.alloc();
     while_one_runs(
         &rt,
         &stop,
         node,
-        || run_as(&rt, alloc, "greeting-2", identity, listener, &peers, &stop),
-        || take(&rt, &peer),
+        || run_as(&rt, alloc, "greeting-1", identity, listener, &peers, &stop),
+        || {
+            take(&rt, &second);
+            visit(&rt, node);
+        },
     );
-    drop(peer);
+    drop(second);
 }
 
 // Node 2 is greeted, and says up to which number it has heard node 1.
@@ -230,13 +203,8 @@ fn welcome<R: Abort>(rt: &R, listener: &TcpListener, heard: u8) -> TcpStream {
     stream
 }
 
-// It has heard more than node 1 ever posted.
-fn tell_more<R: Abort>(rt: &R, listener: &TcpListener) {
-    let mut stream = welcome(rt, listener, 3);
-    assert!(rt; ends(&mut stream), "the node ends");
-}
-
-// Somebody else says so first: then node 1 asks the peer itself, which says something else, and goes on.
+// Somebody says that node 2 has heard more than node 1 ever posted: then node 1 asks the peer itself, which says something
+// else, and goes on. It ends once the peer says so too.
 fn greet_with_more<R: Abort + Net<Stream = TcpStream>>(
     rt: &R,
     listener: &TcpListener,
@@ -248,79 +216,42 @@ fn greet_with_more<R: Abort + Net<Stream = TcpStream>>(
     let mut stream = sent(rt, node, &hello);
     assert!(rt; ends(&mut stream), "who says so isn't taken");
     let second = welcome(rt, listener, 0);
-    check_refused(rt, node, &other_cluster(), 1);
+    let mut other = HELLO;
+    other[6] = 99;
+    check_refused(rt, node, &other, 1);
     drop((first, second));
-    tell_more(rt, listener);
-}
-
-fn other_cluster() -> [u8; 58] {
-    let mut hello = HELLO;
-    hello[6] = 99;
-    hello
-}
-
-fn check_old_copy<R: Abort>(rt: &R, ended: Result<Finished<()>, RunFault>) {
-    match ended {
-        Err(
-            RunFault::OldCopy {
-                peer,
-                heard,
-                posted,
-            },
-        ) => {
-            assert!(rt;
-                (peer, heard, posted) == (2, 3, 0),
-                "what is told of an old copy"
-            );
-        }
-        _ => panic!(rt; "a node on an old copy of its folder"),
-    }
+    let mut third = welcome(rt, listener, 3);
+    assert!(rt; ends(&mut third), "the node ends");
+    drop(third);
 }
 
 #[test]
-fn an_old_copy_ends_by_a_welcome(rt: HostRuntime) {
-    format_member(&rt, "greeting-3", "1");
-    let alloc = rt.alloc();
-    let Place {
-        listener: peer,
-        address,
-    } = free_place(&rt);
+fn an_old_copy_ends_once_its_peer_says_so(rt: HostRuntime) {
+    format(&rt, "greeting-2", "1", "1,2", None, None);
+    let second = free_place(&rt);
     let Place {
         listener,
         address: node,
     } = free_place(&rt);
-    let peers = [(2, address)];
+    let peers = [peer(&rt, 2, Address::from(second.address))];
     let identity = blue(&rt);
     let stop = Stop::new();
-    let (ended, ()) = thread::join(
-        &rt,
-        || run_as(&rt, alloc, "greeting-3", identity, listener, &peers, &stop),
-        || tell_more(&rt, &peer),
-    );
-    check_old_copy(&rt, ended);
-    drop(peer);
-}
-
-#[test]
-fn an_old_copy_ends_by_a_greeting(rt: HostRuntime) {
-    format_member(&rt, "greeting-4", "1");
     let alloc = rt.alloc();
-    let Place {
-        listener: peer,
-        address,
-    } = free_place(&rt);
-    let Place {
-        listener,
-        address: node,
-    } = free_place(&rt);
-    let peers = [(2, address)];
-    let identity = blue(&rt);
-    let stop = Stop::new();
     let (ended, ()) = thread::join(
         &rt,
-        || run_as(&rt, alloc, "greeting-4", identity, listener, &peers, &stop),
-        || greet_with_more(&rt, &peer, node),
+        || run_as(&rt, alloc, "greeting-2", identity, listener, &peers, &stop),
+        || greet_with_more(&rt, &second.listener, node),
     );
-    check_old_copy(&rt, ended);
-    drop(peer);
+    drop(second);
+    let Err(
+        RunFault::OldCopy {
+            peer,
+            heard,
+            posted,
+        },
+    ) = ended
+    else {
+        panic!(rt; "a node on an old copy of its folder")
+    };
+    assert!(rt; (peer, heard, posted) == (2, 3, 0));
 }

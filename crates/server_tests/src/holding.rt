@@ -1,4 +1,4 @@
-//! Hooks that hold a sync.
+//! Hooks that hold a sync, and count all.
 
 use cc_intake::Hooks;
 use std::sync::atomic::{AtomicU64, Ordering};
@@ -8,13 +8,14 @@ use std::thread;
 const TURNS: u64 = 20_000_000;
 
 /// Holds the first sync that begins after an accept began, until a second accept was answered. The second accept is held
-/// until that sync began. It notes a wait that was too long.
+/// until that sync began. It notes a wait that was too long, and counts the syncs that were made.
 #[derive(Drop)]
 pub(crate) struct Hold {
     begun: AtomicU64,
     answered: AtomicU64,
     held: AtomicU64,
     late: AtomicU64,
+    synced: AtomicU64,
 }
 
 impl Hold {
@@ -24,12 +25,18 @@ impl Hold {
             answered: AtomicU64::new(0),
             held: AtomicU64::new(0),
             late: AtomicU64::new(0),
+            synced: AtomicU64::new(0),
         }
     }
 
     /// Whether a sync was held, and nothing for too long.
     pub(crate) fn has_held(&self) -> bool {
         self.held.load(Ordering::SeqCst) > 0 && self.late.load(Ordering::SeqCst) == 0
+    }
+
+    /// How many syncs were made.
+    pub(crate) fn syncs(&self) -> u64 {
+        self.synced.load(Ordering::SeqCst)
     }
 
     // Waits for a count, and notes it where that takes too long.
@@ -64,5 +71,7 @@ impl Hooks for Hold {
         }
     }
 
-    fn after_sync(&self) {}
+    fn after_sync(&self) {
+        self.synced.fetch_add(1, Ordering::SeqCst);
+    }
 }

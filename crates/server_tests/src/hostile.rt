@@ -22,35 +22,16 @@ const STRANGE: [(&[u8], &str); 5] = [
     (&THIRD_REFUSED, "kind 5"),
 ];
 
-/// What such connections send. Each of them has to be closed by the node, but for those that close themselves.
+/// What such connections send: the beginnings of a request, each on a connection that is closed then; what isn't read; the same
+/// bytes again and again, whose answers nobody reads, until the node has closed the connection; and many requests out of turn
+/// in one write, each of which is refused, and nobody reads why.
 pub(crate) fn attack<R: Abort + AllocGlobal + Net<Stream = TcpStream>>(rt: &R, to: SocketAddr) {
-    cuts(rt, to);
-    check_closed(rt, to, &STRANGE);
-    without_end(rt, to, &[0; 4096]);
-    flood(rt, to);
-}
-
-// The beginnings of a request, each on a connection that is closed then.
-fn cuts<R: Abort + Net<Stream = TcpStream>>(rt: &R, to: SocketAddr) {
     for cut in 0..FIRST_ASK.len() {
         let beginning = FIRST_ASK.get(..cut).expect(rt, "a beginning");
         drop(sent(rt, to, beginning));
     }
-}
-
-// The same bytes again and again, whose answers nobody reads, until the node has closed the connection.
-fn without_end<R: Abort + Net<Stream = TcpStream>>(rt: &R, to: SocketAddr, bytes: &[u8]) {
-    let mut stream = connected(rt, to);
-    for _ in 0..100_000u32 {
-        if stream.write_all(bytes).is_err() {
-            return;
-        }
-    }
-    panic!(rt; "bytes without an end")
-}
-
-// Many requests out of turn in one write, each of which is refused. Nobody reads why.
-fn flood<R: Abort + AllocGlobal + Net<Stream = TcpStream>>(rt: &R, to: SocketAddr) {
+    check_closed(rt, to, &STRANGE);
+    check_cut_off(rt, to, &[0; 4096]);
     let mut requests = Vec::with_capacity(rt.alloc(), REQUESTS * OUT_OF_TURN.len()).expect(
         rt, "room",
     );
@@ -58,4 +39,15 @@ fn flood<R: Abort + AllocGlobal + Net<Stream = TcpStream>>(rt: &R, to: SocketAdd
         requests.extend_from_slice(&OUT_OF_TURN).expect(rt, "room");
     }
     drop(sent(rt, to, requests.as_slice()));
+}
+
+// These bytes without an end are cut off.
+fn check_cut_off<R: Abort + Net<Stream = TcpStream>>(rt: &R, to: SocketAddr, bytes: &[u8]) {
+    let mut stream = connected(rt, to);
+    for _ in 0..100_000u32 {
+        if stream.write_all(bytes).is_err() {
+            return;
+        }
+    }
+    panic!(rt; "bytes without an end")
 }

@@ -14,32 +14,20 @@ mod following;
 #[cfg(test)]
 mod greetings;
 #[cfg(test)]
-mod held;
-#[cfg(test)]
 mod holding;
 #[cfg(test)]
 mod hostile;
 #[cfg(test)]
 mod loading;
 #[cfg(test)]
-mod names;
-#[cfg(test)]
 mod nodes;
 #[cfg(test)]
 mod pages;
 #[cfg(test)]
-mod ports;
-#[cfg(test)]
-mod repeating;
-#[cfg(test)]
-mod retiring;
-#[cfg(test)]
 mod routing;
-#[cfg(test)]
-mod sharing;
 #[cfg(test)]
 mod skipping;
 #[cfg(test)]
 mod slow_peer;
 #[cfg(test)]
-mod vectors;
+mod two_nodes;

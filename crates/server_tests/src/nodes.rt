@@ -42,68 +42,9 @@ pub(crate) fn free_address<R: Abort + Net<Listener = TcpListener, Stream = TcpSt
     free_place(rt).address
 }
 
-/// Where the nodes 1 and 2 listen.
-#[derive(Drop)]
-pub(crate) struct Places {
-    pub first: TcpListener,
-    pub second: TcpListener,
-    pub one: SocketAddr,
-    pub two: SocketAddr,
-}
-
-/// Two members in new folders, with listeners at ports that are free.
-pub(crate) fn set_up<R>(rt: &R, folder: &str, other: &str) -> Places
-where
-    R: Abort + AllocGlobal + Files<File = File> + Net<Listener = TcpListener, Stream = TcpStream>,
-{
-    set_up_of(rt, folder, other, "1,2", None)
-}
-
-/// Two of these members in new folders, with listeners at ports that are free.
-pub(crate) fn set_up_of<R>(
-    rt: &R,
-    folder: &str,
-    other: &str,
-    members: &str,
-    beta: Option<&str>,
-) -> Places
-where
-    R: Abort + AllocGlobal + Files<File = File> + Net<Listener = TcpListener, Stream = TcpStream>,
-{
-    format_member_of(rt, folder, "1", members, beta);
-    format_member_of(rt, other, "2", members, beta);
-    let first = free_place(rt);
-    let second = free_place(rt);
-    Places {
-        first: first.listener,
-        second: second.listener,
-        one: first.address,
-        two: second.address,
-    }
-}
-
-/// A new folder that keeps a member of {1,2}.
-pub(crate) fn format_member<R: Abort + AllocGlobal + Files<File = File>>(
-    rt: &R,
-    folder: &str,
-    id: &str,
-) {
-    format_member_of(rt, folder, id, "1,2", None);
-}
-
-/// A new folder that keeps one of these members, of which a fraction β answers each operation.
-pub(crate) fn format_member_of<'w, R: Abort + AllocGlobal + Files<File = File>>(
-    rt: &R,
-    folder: &str,
-    id: &'w str,
-    members: &'w str,
-    beta: Option<&'w str>,
-) {
-    format_with_share(rt, folder, id, members, beta, None);
-}
-
-/// The same, up to so many of whose asks begin together.
-pub(crate) fn format_with_share<'w, R: Abort + AllocGlobal + Files<File = File>>(
+/// A new folder that keeps one of these members, of which a fraction β answers each operation, and up to so many of whose asks
+/// begin together.
+pub(crate) fn format<'w, R: Abort + AllocGlobal + Files<File = File>>(
     rt: &R,
     folder: &str,
     id: &'w str,
@@ -123,44 +64,39 @@ pub(crate) fn format_with_share<'w, R: Abort + AllocGlobal + Files<File = File>>
     let _ = fs::remove_dir_all(rt, folder);
     fs::create_dir(rt, folder).expect(rt, "a folder");
     let order = FormatOrder::parse(rt.alloc(), &words).expect(rt, "an order");
-    assert!(rt;
-        is_formatted(rt, rt.alloc(), folder, &order),
-        "the folder is formatted"
-    );
+    let mut output = Vec::new(rt.alloc());
+    let ended = format_folder(rt, rt.alloc(), folder, &order, 0, &mut output);
     drop(order);
+    assert!(rt; matches!(ended, Ok(0)), "the folder is formatted");
 }
 
-fn is_formatted<R: Files<File = File>>(
-    rt: &R,
-    alloc: Global,
-    folder: &str,
-    order: &FormatOrder,
-) -> bool {
-    let mut output = Vec::new(alloc);
-    let ended = format_folder(rt, alloc, folder, order, 0, &mut output);
-    matches!(ended, Ok(0))
+/// The peer of that number, which listens there.
+pub(crate) fn peer<R: Abort>(rt: &R, number: u32, address: Address) -> Peer {
+    Peer {
+        id: NodeId::new(number).expect(rt, "an id"),
+        address,
+    }
 }
 
 /// What a node of a test is run with, beside its listener.
 #[derive(Clone, Copy)]
 pub(crate) struct Setting<'a> {
     pub folder: &'a str,
-    pub listen: SocketAddr,
-    /// The peers, each with where it listens.
-    pub peers: &'a [(u32, SocketAddr)],
+    pub listen: Address,
+    pub peers: &'a [Peer],
     pub peers_file: Option<&'a str>,
-    pub listen_clients: Option<SocketAddr>,
+    pub listen_clients: Option<Address>,
     pub remote_operators: bool,
     pub identity: Identity,
-    pub status: Option<SocketAddr>,
+    pub status: Option<Address>,
 }
 
 impl<'a> Setting<'a> {
     /// A folder, where the node listens, and peers, and no more.
-    pub(crate) fn of(folder: &'a str, listen: SocketAddr, peers: &'a [(u32, SocketAddr)]) -> Self {
+    pub(crate) fn of(folder: &'a str, listen: SocketAddr, peers: &'a [Peer]) -> Self {
         Setting {
             folder,
-            listen,
+            listen: Address::from(listen),
             peers,
             peers_file: None,
             listen_clients: None,
@@ -178,37 +114,27 @@ pub(crate) fn config_of<'a>(
 ) -> Result<Config<'a>, AllocError> {
     Ok(Config {
         dir: setting.folder,
-        listen: Address::from(setting.listen),
-        listen_clients: setting.listen_clients.map(Address::from),
+        listen: setting.listen,
+        listen_clients: setting.listen_clients,
         remote_operators: setting.remote_operators,
         identity: setting.identity,
         run: 1,
         speech: Speech::Now,
-        peers: peers_of(alloc, setting.peers)?,
+        peers: Vec::from_slice(alloc, setting.peers)?,
         peers_file: setting.peers_file,
-        status: setting.status.map(Address::from),
+        status: setting.status,
         version: "1",
     })
 }
 
-fn peers_of(alloc: Global, places: &[(u32, SocketAddr)]) -> Result<Vec<Peer>, AllocError> {
-    let mut peers = Vec::new(alloc);
-    for &(number, address) in places {
-        if let Some(id) = NodeId::new(number) {
-            let address = Address::from(address);
-            peers.push(Peer { id, address })?;
-        }
-    }
-    Ok(peers)
-}
-
-/// Runs the node of a folder, with these peers, until the flag is set.
+/// Runs the node of a folder, with these peers, until the flag is set. It makes the setting itself: a closure of a thread can't
+/// borrow one.
 pub(crate) fn run<R, H: Hooks + Sync>(
     rt: &R,
     alloc: Global,
     folder: &str,
     listener: TcpListener,
-    peers: &[(u32, SocketAddr)],
+    peers: &[Peer],
     stop: &Stop,
     hooks: &H,
 ) -> Result<Finished<()>, RunFault>
@@ -252,7 +178,8 @@ where
     ended
 }
 
-/// Talks while a node runs, which listens there and is ended by the flag once the talk is over.
+/// Talks while a node runs, which listens there and is ended by the flag once the talk is over. Each event that it accepted was
+/// told and flushed then.
 pub(crate) fn while_one_runs<R, F, T>(rt: &R, stop: &Stop, address: SocketAddr, node: F, talk: T)
 where
     R: Abort + Net<Listener = TcpListener, Stream = TcpStream> + Threads + Sync,
@@ -263,9 +190,16 @@ where
 {
     let (ended, ()) = thread::join(rt, node, || {
         talk();
-        end(rt, stop, address);
+        stop.set();
+        let _ = TcpStream::connect(rt, address);
     });
-    check_end(rt, ended);
+    let ended = ended.expect(rt, "the node runs");
+    assert!(rt; ended.accepted == ended.told, "each accepted event is told");
+    assert!(rt;
+        ended.accepted == ended.flushed,
+        "each accepted event is flushed"
+    );
+    assert!(rt; ended.rest == 0, "nothing is left");
 }
 
 /// The same of two nodes, which listen at these addresses.
@@ -296,21 +230,4 @@ where
             requires { F.IsAlwaysCallable first × T.IsAlwaysCallable talk }
         { while_one_runs(rt, stop, one, first, talk) },
     );
-}
-
-// Ends a node that listens there.
-fn end<R: Net<Stream = TcpStream>>(rt: &R, stop: &Stop, address: SocketAddr) {
-    stop.set();
-    let _ = TcpStream::connect(rt, address);
-}
-
-// What a node came to: each accepted event was told and flushed.
-fn check_end<R: Abort>(rt: &R, ended: Result<Finished<()>, RunFault>) {
-    let ended = ended.expect(rt, "the node runs");
-    assert!(rt; ended.accepted == ended.told, "each accepted event is told");
-    assert!(rt;
-        ended.accepted == ended.flushed,
-        "each accepted event is flushed"
-    );
-    assert!(rt; ended.rest == 0, "nothing is left");
 }

@@ -2,7 +2,8 @@
 
 use crate::clients::{FIRST_ASK, FIRST_REPLY, connected, ends, reads};
 use crate::hostile::OUT_OF_TURN;
-use crate::nodes::{Places, run, set_up, while_two_run};
+use crate::nodes::{Place, format, free_place, peer, run, while_two_run};
+use cc_addresses::Address;
 use cc_flags::Stop;
 use cc_intake::NoHooks;
 use std::io::{Read, Write};
@@ -49,50 +50,26 @@ fn speak<R: Abort + AllocGlobal>(rt: &R, stream: &mut TcpStream) {
     reads(rt, stream, &OUT_OF_TURN_REFUSED);
 }
 
-// A connection over which node 2 has spoken.
-fn spoken<R: Abort + AllocGlobal + Net<Stream = TcpStream>>(rt: &R, one: SocketAddr) -> TcpStream {
-    let mut stream = connected(rt, one);
-    speak(rt, &mut stream);
-    stream
-}
-
-// A node has one connection to another: a newer one ends the older one.
-fn replace<R: Abort + AllocGlobal + Net<Stream = TcpStream>>(rt: &R, one: SocketAddr) {
-    let mut older = spoken(rt, one);
-    let mut newer = spoken(rt, one);
+// A node has one connection to another: a newer one ends the older one. A store waits for node 2, which doesn't run yet.
+// Another connection asks out of turn in its session, and is refused. Node 2 begins once both have asked. The reply goes to the
+// first connection, which has said that nothing more comes, and ends then.
+fn talk<R: Abort + AllocGlobal + Net<Stream = TcpStream>>(rt: &R, one: SocketAddr, begun: &Stop) {
+    let mut older = connected(rt, one);
+    speak(rt, &mut older);
+    let mut newer = connected(rt, one);
+    speak(rt, &mut newer);
     assert!(rt; ends(&mut older), "the older connection of a node ends");
     speak(rt, &mut newer);
-}
-
-// A store waits for node 2, which doesn't run yet. Another connection asks out of turn in its session, and is refused.
-fn ask_over_both<R: Abort>(rt: &R, first: &mut TcpStream, second: &mut TcpStream) {
-    first.write_all(&FIRST_ASK).expect(rt, "the ask is sent");
-    first.shutdown(Shutdown::Write).expect(rt, "a shutdown");
-    ask_out_of_turn(rt, second);
-}
-
-// The reply goes to the first connection, which has said that nothing more comes, and ends then.
-fn check_answered<R: Abort + AllocGlobal>(rt: &R, first: &mut TcpStream) {
-    reads(rt, first, &FIRST_REPLY);
-    assert!(rt; ends(first), "a connection ends once it is answered");
-}
-
-// Node 2 begins once both have asked.
-fn ask_both<R: Abort + AllocGlobal + Net<Stream = TcpStream>>(
-    rt: &R,
-    one: SocketAddr,
-    begun: &Stop,
-) {
+    drop((older, newer));
     let mut first = connected(rt, one);
     let mut second = connected(rt, one);
-    ask_over_both(rt, &mut first, &mut second);
+    first.write_all(&FIRST_ASK).expect(rt, "the ask is sent");
+    first.shutdown(Shutdown::Write).expect(rt, "a shutdown");
+    ask_out_of_turn(rt, &mut second);
     begun.set();
-    check_answered(rt, &mut first);
-}
-
-fn talk<R: Abort + AllocGlobal + Net<Stream = TcpStream>>(rt: &R, one: SocketAddr, begun: &Stop) {
-    replace(rt, one);
-    ask_both(rt, one, begun);
+    reads(rt, &mut first, &FIRST_REPLY);
+    assert!(rt; ends(&mut first), "a connection ends once it is answered");
+    drop((first, second));
 }
 
 // Waits for a flag, for so many turns of a thread at most.
@@ -107,12 +84,18 @@ fn await_flag(flag: &Stop) {
 
 #[test]
 fn replies_go_to_who_asked_and_peers_have_one_connection(rt: HostRuntime) {
-    let Places {
-        first,
-        second,
-        one,
-        two,
-    } = set_up(&rt, "routed-1", "routed-2");
+    format(&rt, "routed-1", "1", "1,2", None, None);
+    format(&rt, "routed-2", "2", "1,2", None, None);
+    let Place {
+        listener: first,
+        address: one,
+    } = free_place(&rt);
+    let Place {
+        listener: second,
+        address: two,
+    } = free_place(&rt);
+    let of_1 = [peer(&rt, 2, Address::from(two))];
+    let of_2 = [peer(&rt, 1, Address::from(one))];
     let begun = Stop::new();
     let stop = Stop::new();
     let alloc = rt.alloc();
@@ -120,10 +103,10 @@ fn replies_go_to_who_asked_and_peers_have_one_connection(rt: HostRuntime) {
         &rt,
         &stop,
         [one, two],
-        || run(&rt, alloc, "routed-1", first, &[(2, two)], &stop, &NoHooks),
+        || run(&rt, alloc, "routed-1", first, &of_1, &stop, &NoHooks),
         || {
             await_flag(&begun);
-            run(&rt, alloc, "routed-2", second, &[(1, one)], &stop, &NoHooks)
+            run(&rt, alloc, "routed-2", second, &of_2, &stop, &NoHooks)
         },
         || talk(&rt, one, &begun),
     );

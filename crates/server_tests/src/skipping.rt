@@ -3,7 +3,8 @@
 
 use crate::clients::sent;
 use crate::greetings::greeted;
-use crate::nodes::{Place, format_member_of, free_place, run, while_one_runs};
+use crate::nodes::{Place, format, free_place, peer, run, while_one_runs};
+use cc_addresses::Address;
 use cc_channels::monotonic_millis;
 use cc_flags::Stop;
 use cc_intake::NoHooks;
@@ -95,7 +96,7 @@ fn hear_first<R: Abort + Net<Stream = TcpStream>>(rt: &R, peer: &Place, frame: &
 
 #[test]
 fn an_answer_goes_to_the_node_that_asked(rt: HostRuntime) {
-    format_member_of(&rt, "skipping-1", "1", "1,2,3", None);
+    format(&rt, "skipping-1", "1", "1,2,3", None, None);
     let alloc = rt.alloc();
     let second = free_place(&rt);
     let third = free_place(&rt);
@@ -103,7 +104,10 @@ fn an_answer_goes_to_the_node_that_asked(rt: HostRuntime) {
         listener,
         address: node,
     } = free_place(&rt);
-    let peers = [(2, second.address), (3, third.address)];
+    let peers = [
+        peer(&rt, 2, Address::from(second.address)),
+        peer(&rt, 3, Address::from(third.address)),
+    ];
     let stop = Stop::new();
     while_one_runs(
         &rt,
@@ -120,7 +124,10 @@ fn an_answer_goes_to_the_node_that_asked(rt: HostRuntime) {
         listener,
         address: node,
     } = free_place(&rt);
-    let peers = [(2, second.address), (3, third.address)];
+    let peers = [
+        peer(&rt, 2, Address::from(second.address)),
+        peer(&rt, 3, Address::from(third.address)),
+    ];
     let stop = Stop::new();
     while_one_runs(
         &rt,

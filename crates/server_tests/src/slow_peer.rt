@@ -1,5 +1,5 @@
-//! A peer that reads late gets all that was put for it, once and in order: what its socket took at once, and what was left to its
-//! writer.
+//! A peer that reads late gets all that was put for it, once and in order: what its socket took at once, and what was left to
+//! its writer.
 
 use crate::nodes::{Place, free_place};
 use cc_addresses::{Address, Peer};
@@ -34,10 +34,16 @@ fn node<R: Abort>(rt: &R, number: u32) -> NodeId {
     NodeId::new(number).expect(rt, "a node")
 }
 
-// Puts a long post, of which each block has bytes of its own, short ones and an acknowledgement.
-fn put_all<R: Abort + Wait>(rt: &R, alloc: Global, channels: &PeerChannels) {
+// Once the node is connected to its peer, puts a long post, of which each block has bytes of its own, short ones and an
+// acknowledgement.
+fn put_all<R: Abort + Wait + Clock>(rt: &R, alloc: Global, channels: &PeerChannels) {
     let me = node(rt, 1);
     let channel = channels.to(node(rt, 2)).expect(rt, "a channel");
+    for _ in 0..1000 {
+        if channel.connected_since().is_none() {
+            thread::sleep(rt, Duration::from_millis(10));
+        }
+    }
     let mut long = Vec::new(alloc);
     for byte in 0..BLOCKS {
         long.extend_from_slice(&[byte; BLOCK]).expect(rt, "room");
@@ -70,18 +76,6 @@ fn read_all<R: Abort>(rt: &R, stream: &mut TcpStream) {
     assert!(rt; ack == ACK);
 }
 
-// Waits until the node is connected to its peer.
-fn wait_for_connection<R: Abort + Wait + Clock>(rt: &R, channels: &PeerChannels) {
-    let channel = channels.to(node(rt, 2)).expect(rt, "a channel");
-    for _ in 0..1000 {
-        if channel.connected_since().is_some() {
-            return;
-        }
-        thread::sleep(rt, Duration::from_millis(10));
-    }
-    panic!(rt; "no connection");
-}
-
 // Nothing is read before all was put.
 fn read_late<R: Abort + Wait + Clock + Net<Listener = TcpListener, Stream = TcpStream>>(
     rt: &R,
@@ -93,7 +87,6 @@ fn read_late<R: Abort + Wait + Clock + Net<Listener = TcpListener, Stream = TcpS
     stream
         .set_read_timeout(Some(Duration::from_secs(10)))
         .expect(rt, "a limit of reads");
-    wait_for_connection(rt, channels);
     put_all(rt, alloc, channels);
     read_all(rt, &mut stream);
 }

@@ -25,6 +25,11 @@ const PUT_A: &str = "PUT /v1/text HTTP/1.1\r\nhost: a\r\ncontent-length: 1\r\n\r
 const PUT_A_AS_7_1: &str =
     "PUT /v1/text HTTP/1.1\r\nhost: a\r\nidempotency-key: 7/1\r\ncontent-length: 1\r\n\r\na";
 
+// The kinds of what a node tells: an answer, and a refusal with its number and what it carries.
+const REPLY: u8 = 4;
+
+const REFUSED: u8 = 5;
+
 // Store `a`, as a command.
 const STORE_A: [u8; 3] = [1, 1, 97];
 
@@ -33,22 +38,6 @@ const STORE_A: [u8; 3] = [1, 1, 97];
 struct Lines {
     client: TcpStream,
     node: TcpStream,
-}
-
-// A client connects, and the gateway to the node.
-fn connect<R: Abort + Net<Stream = TcpStream>>(
-    rt: &R,
-    web: SocketAddr,
-    node: &TcpListener,
-) -> Lines {
-    let client = TcpStream::connect(rt, web).expect(rt, "a connection");
-    let (node, _) = node.accept().expect(rt, "a connection");
-    for stream in [&client, &node] {
-        stream
-            .set_read_timeout(Some(Duration::from_secs(10)))
-            .expect(rt, "a limit of reads");
-    }
-    Lines { client, node }
 }
 
 impl Lines {
@@ -71,39 +60,22 @@ impl Lines {
         number: u64,
         command: &[u8],
     ) {
-        is_framed(rt, &mut self.node, 3, session, number, command);
+        let asked = frame(rt, 3, session, number, command);
+        is_read(rt, &mut self.node, &asked);
+        drop(asked);
     }
 
-    // The node tells the answer with these bytes.
-    fn replies<R: Abort + AllocGlobal>(
+    // The node tells what stands behind the kind of the frame, the session and the number.
+    fn tells<R: Abort + AllocGlobal>(
         &mut self,
         rt: &R,
+        kind: u8,
         session: u64,
         number: u64,
-        answer: &[u8],
+        rest: &[u8],
     ) {
-        let bytes = frame(rt, 4, session, number, answer);
-        self.node.write_all(&bytes).expect(rt, "a reply");
-        drop(bytes);
-    }
-
-    // The node refuses with that number, which carries that value.
-    fn refuses<R: Abort + AllocGlobal>(
-        &mut self,
-        rt: &R,
-        session: u64,
-        number: u64,
-        refusal: u8,
-        value: u8,
-    ) {
-        let bytes = frame(
-            rt,
-            5,
-            session,
-            number,
-            &[refusal, 0, 0, 0, 0, 0, 0, 0, value],
-        );
-        self.node.write_all(&bytes).expect(rt, "a refusal");
+        let bytes = frame(rt, kind, session, number, rest);
+        self.node.write_all(&bytes).expect(rt, "an answer");
         drop(bytes);
     }
 
@@ -116,15 +88,7 @@ impl Lines {
         last: u8,
     ) {
         self.is_asked(rt, session, 0, command);
-        self.refuses(rt, session, 0, 11, last);
-    }
-
-    // Both connections end.
-    fn end<R: Abort>(&mut self, rt: &R) {
-        let is_closed = matches!(self.client.read(&mut [0]), Ok(0));
-        assert!(rt; is_closed, "the client's connection ends");
-        let is_closed = matches!(self.node.read(&mut [0]), Ok(0));
-        assert!(rt; is_closed, "the connection to the node ends");
+        self.tells(rt, REFUSED, session, 0, &[11, 0, 0, 0, 0, 0, 0, 0, last]);
     }
 }
 
@@ -153,19 +117,6 @@ fn frame<R: Abort + AllocGlobal>(
     bytes
 }
 
-fn is_framed<R: Abort + AllocGlobal>(
-    rt: &R,
-    stream: &mut TcpStream,
-    kind: u8,
-    session: u64,
-    number: u64,
-    rest: &[u8],
-) {
-    let wanted = frame(rt, kind, session, number, rest);
-    is_read(rt, stream, &wanted);
-    drop(wanted);
-}
-
 // What comes over a connection.
 fn is_read<R: Abort + AllocGlobal>(rt: &R, stream: &mut TcpStream, wanted: &[u8]) {
     let mut bytes = vec![in rt.alloc(); 0u8; wanted.len()].expect(rt, "memory");
@@ -192,7 +143,7 @@ fn carries<R: Abort + AllocGlobal>(
     response: &str,
 ) {
     lines.is_asked(rt, LAST, number, command);
-    lines.replies(rt, LAST, number, answer);
+    lines.tells(rt, REPLY, LAST, number, answer);
     lines.hears(rt, response);
 }
 
@@ -234,7 +185,7 @@ fn read_all<R: Abort + AllocGlobal>(rt: &R, lines: &mut Lines) {
     carries(rt, lines, 8, &[8], &[5, 0, 2, 0, 0, 0, 1, 0, 0, 0, 9], set);
     lines.asks(rt, "GET /v1/snapshot HTTP/1.1\r\nhost: a\r\n\r\n");
     lines.is_asked(rt, LAST, 9, &[2]);
-    lines.replies(rt, LAST, 9, &SEEN);
+    lines.tells(rt, REPLY, LAST, 9, &SEEN);
     let snapshot =
         "HTTP/1.1 200 OK\r\ncontent-type: application/json\r\ncache-control: no-store\r\nx-content-type-options: nosniff\r\ncontent-length: 90\r\n\r\n{\"rows\":[{\"node\":1,\"number\":\"3\",\"text\":\"a\",\"max\":\"0\",\"flag\":false,\"set\":[]}],\"collects\":2}";
     carries(rt, lines, 10, &[2], &SEEN, snapshot);
@@ -256,7 +207,7 @@ fn follow<R: Abort + AllocGlobal>(rt: &R, lines: &mut Lines) {
         "GET /v1/changes HTTP/1.1\r\nhost: a\r\nlast-event-id: 3\r\n\r\n",
     );
     lines.is_asked(rt, LAST, 12, &[2]);
-    lines.replies(rt, LAST, 12, &SEEN);
+    lines.tells(rt, REPLY, LAST, 12, &SEEN);
     let later =
         "HTTP/1.1 200 OK\r\ncontent-type: text/event-stream\r\ncache-control: no-store\r\nx-content-type-options: nosniff\r\ncontent-length: 102\r\n\r\nretry: 100\nid: 4\ndata: {\"rows\":[{\"node\":1,\"number\":\"4\",\"text\":\"a\",\"max\":\"0\",\"flag\":false,\"set\":[]}]}\n\n";
     carries(rt, lines, 13, &[2], &SEEN_LATER, later);
@@ -273,11 +224,11 @@ fn follow<R: Abort + AllocGlobal>(rt: &R, lines: &mut Lines) {
 fn ask_again<R: Abort + AllocGlobal>(rt: &R, lines: &mut Lines) {
     lines.asks(rt, PUT_A);
     lines.is_asked(rt, LAST, 15, &STORE_A);
-    lines.refuses(rt, LAST, 15, 13, 0);
+    lines.tells(rt, REFUSED, LAST, 15, &[13, 0, 0, 0, 0, 0, 0, 0, 0]);
     lines.is_asked(rt, LAST, 15, &STORE_A);
-    lines.refuses(rt, LAST, 15, 11, 40);
+    lines.tells(rt, REFUSED, LAST, 15, &[11, 0, 0, 0, 0, 0, 0, 0, 40]);
     lines.is_asked(rt, LAST_BUT_ONE, 5, &STORE_A);
-    lines.replies(rt, LAST_BUT_ONE, 5, &[1]);
+    lines.tells(rt, REPLY, LAST_BUT_ONE, 5, &[1]);
     lines.hears(rt, STORED);
 }
 
@@ -285,11 +236,11 @@ fn ask_again<R: Abort + AllocGlobal>(rt: &R, lines: &mut Lines) {
 fn ask_as_client<R: Abort + AllocGlobal>(rt: &R, lines: &mut Lines) {
     lines.asks(rt, PUT_A_AS_7_1);
     lines.is_asked(rt, 7, 1, &STORE_A);
-    lines.replies(rt, 7, 1, &[1]);
+    lines.tells(rt, REPLY, 7, 1, &[1]);
     lines.hears(rt, STORED);
     lines.asks(rt, PUT_A_AS_7_1);
     lines.is_asked(rt, 7, 1, &STORE_A);
-    lines.refuses(rt, 7, 1, 11, 3);
+    lines.tells(rt, REFUSED, 7, 1, &[11, 0, 0, 0, 0, 0, 0, 0, 3]);
     lines.hears(
         rt,
         "HTTP/1.1 409 Conflict\r\ncontent-type: application/problem+json\r\ncache-control: no-store\r\nx-content-type-options: nosniff\r\ncontent-length: 147\r\n\r\n{\"type\":\"about:blank\",\"title\":\"Conflict\",\"status\":409,\"detail\":\"the session is past this request\",\"refusal\":\"Stale\",\"number\":11,\"last_request\":\"3\"}",
@@ -330,15 +281,26 @@ fn wait_in_vain<R: Abort + AllocGlobal>(rt: &R, lines: &mut Lines) {
         rt,
         "HTTP/1.1 504 Gateway Timeout\r\ncontent-type: application/problem+json\r\ncache-control: no-store\r\nx-content-type-options: nosniff\r\nconnection: close\r\ncontent-length: 119\r\n\r\n{\"type\":\"about:blank\",\"title\":\"Gateway Timeout\",\"status\":504,\"detail\":\"no answer in time: the write may still be done\"}",
     );
-    lines.end(rt);
+    let is_closed = matches!(lines.client.read(&mut [0]), Ok(0));
+    assert!(rt; is_closed, "the client's connection ends");
+    let is_closed = matches!(lines.node.read(&mut [0]), Ok(0));
+    assert!(rt; is_closed, "the connection to the node ends");
 }
 
+// A client connects, and the gateway to the node.
 fn talk<R: Abort + AllocGlobal + Net<Stream = TcpStream>>(
     rt: &R,
     web: SocketAddr,
     node: &TcpListener,
 ) {
-    let mut lines = connect(rt, web, node);
+    let client = TcpStream::connect(rt, web).expect(rt, "a connection");
+    let (node, _) = node.accept().expect(rt, "a connection");
+    for stream in [&client, &node] {
+        stream
+            .set_read_timeout(Some(Duration::from_secs(10)))
+            .expect(rt, "a limit of reads");
+    }
+    let mut lines = Lines { client, node };
     write_all(rt, &mut lines);
     read_all(rt, &mut lines);
     follow(rt, &mut lines);

@@ -6,23 +6,25 @@ ghost use Rattle.std.specs.Prelude.{◌≡◌};
 use cc_messages::{Answer, Refusal};
 use cc_views::{NodeId, NumberSet, Row, Text, Value, View};
 use cc_web::{
-    Form, Problem, Status, WebField, WebResponse, answer_response, change_response, is_news,
-    no_change_response, overview_response, problem_response, stores_in,
+    Form, Problem, Status, WebField, answer_response, overview_response, problem_response,
 };
 use std::process::Abort;
 
-fn is_json<R: Abort>(rt: &R, response: WebResponse, body: &str) {
-    let head = response.head;
-    assert!(rt;
-        head.status == Status::Ok && matches!(head.form, Form::Json) && head.field.is_none()
-    );
-    assert!(rt; response.body.as_slice() == body.as_bytes());
-}
-
-fn answered<R: Abort + AllocGlobal>(rt: &R, answer: Answer, body: &str) {
-    let response = answer_response(rt.alloc(), &answer, None).expect(rt, "memory");
-    drop(answer);
-    is_json(rt, response, body);
+// The row of node 2, with all four slots.
+fn full_row() -> Row {
+    let mut set = NumberSet::new();
+    set.push(5);
+    set.push(8);
+    Row {
+        node: NodeId::new(2).unwrap(),
+        number: 18_446_744_073_709_551_615,
+        value: Value {
+            text: Text::new(b"\xff\xfe").unwrap(),
+            max: 7,
+            flag: true,
+            set,
+        },
+    }
 }
 
 // A view of one row.
@@ -34,28 +36,11 @@ fn one_row<R: Abort + AllocGlobal>(rt: &R, row: Row) -> View
     view
 }
 
-// The row of node 2, with all four slots.
-fn full_row() -> Row {
-    let mut set = NumberSet::new();
-    set.push(5);
-    set.push(8);
-    Row {
-        node: NodeId::new(2).unwrap(),
-        number: 18_446_744_073_709_551_615,
-        value: Value {
-            text: Text::new(b"b").unwrap(),
-            max: 7,
-            flag: true,
-            set,
-        },
-    }
-}
-
-// A view of two rows: of node 1 with this text, and of node 2 with all four slots.
+// The row of node 1, whose text has quotes, backslashes and controls, and the other one.
 #[tactic(auto, using(cc_views::specs::MergeLaws::merge_is_no_larger))]
-fn view<R: Abort + AllocGlobal>(rt: &R, text: Text) -> View {
+fn two_rows<R: Abort + AllocGlobal>(rt: &R) -> View {
     let mut value = Value::empty();
-    value.text = text;
+    value.text = Text::new(b"\"\\\n\x1f\x7f \xc3\xa9").unwrap();
     let row = Row {
         node: NodeId::new(1).unwrap(),
         number: 3,
@@ -68,111 +53,32 @@ fn view<R: Abort + AllocGlobal>(rt: &R, text: Text) -> View {
     view
 }
 
-const OTHER_ROW: &str =
-    r#",{"node":2,"number":"18446744073709551615","text":"b","max":"7","flag":true,"set":["5","8"]}]"#;
-
-fn is_shown<R: Abort + AllocGlobal>(rt: &R, text: Text, first_row: &str) {
-    let view = view(rt, text);
-    let body = format!(in rt.alloc(); "{{\"rows\":[{}{}}}", first_row, OTHER_ROW).expect(
-        rt, "memory",
-    );
-    answered(rt, Answer::Seen(view), &body);
-    drop(body);
-}
-
-#[test]
-fn a_view_is_rows(rt: HostRuntime) {
-    is_shown(
-        &rt,
-        Text::new(b"a").unwrap(),
-        r#"{"node":1,"number":"3","text":"a","max":"0","flag":false,"set":[]}"#,
-    );
-}
-
-#[test]
-fn quotes_backslashes_and_controls_are_escaped(rt: HostRuntime) {
-    is_shown(
-        &rt,
-        Text::new(b"\"\\\n\x1f\x7f \xc3\xa9").unwrap(),
-        "{\"node\":1,\"number\":\"3\",\"text\":\"\\\"\\\\\\u000a\\u001f\x7f \u{e9}\",\"max\":\"0\",\"flag\":false,\"set\":[]}",
-    );
-}
-
 // What isn't UTF-8 stands in Base64 (RFC 4648: ff fe is //4=).
-#[test]
-fn other_bytes_are_base64(rt: HostRuntime) {
-    is_shown(
-        &rt,
-        Text::new(b"\xff\xfe").unwrap(),
-        r#"{"node":1,"number":"3","text_base64":"//4=","max":"0","flag":false,"set":[]}"#,
-    );
-}
-
-fn is_stream<R: Abort>(rt: &R, response: WebResponse, body: &str) {
-    let head = response.head;
-    assert!(rt; head.status == Status::Ok && matches!(head.form, Form::Events));
-    assert!(rt; response.body.as_slice() == body.as_bytes());
-}
+const ROWS: &str =
+    "{\"rows\":[{\"node\":1,\"number\":\"3\",\"text\":\"\\\"\\\\\\u000a\\u001f\x7f \u{e9}\",\"max\":\"0\",\"flag\":false,\"set\":[]},{\"node\":2,\"number\":\"18446744073709551615\",\"text_base64\":\"//4=\",\"max\":\"7\",\"flag\":true,\"set\":[\"5\",\"8\"]}]}";
 
 #[test]
-fn an_event_has_the_view_and_how_many_stores_it_shows(rt: HostRuntime) {
-    let mut value = Value::empty();
-    value.text = Text::new(b"a").unwrap();
-    let row = Row {
-        node: NodeId::new(1).unwrap(),
-        number: 3,
-        value,
-    };
-    let seen = one_row(&rt, row);
-    assert!(rt; is_news(None, seen.rows()) && is_news(Some(2), seen.rows()));
-    assert!(rt; !is_news(Some(3), seen.rows()));
-    let response = change_response(rt.alloc(), &seen).expect(&rt, "memory");
+fn a_view_is_rows_without_loss(rt: HostRuntime) {
+    let seen = Answer::Seen(two_rows(&rt));
+    let response = answer_response(rt.alloc(), &seen, None).expect(&rt, "memory");
     drop(seen);
-    is_stream(
-        &rt,
-        response,
-        "retry: 100\nid: 3\ndata: {\"rows\":[{\"node\":1,\"number\":\"3\",\"text\":\"a\",\"max\":\"0\",\"flag\":false,\"set\":[]}]}\n\n",
-    );
-    let response = no_change_response(rt.alloc()).expect(&rt, "memory");
-    is_stream(&rt, response, "retry: 100\n\n");
-}
-
-// 3 stores of one node and 2^64 - 1 of another.
-#[test]
-fn stores_are_counted_to_the_end_of_the_numbers(rt: HostRuntime) {
-    let seen = view(&rt, Text::new(b"a").unwrap());
-    assert!(rt; stores_in(seen.rows()) == u64::MAX);
-    drop(seen);
-}
-
-fn is_problem<R: Abort + AllocGlobal>(rt: &R, problem: Problem, code: u16, body: &str) {
-    let response = problem_response(rt.alloc(), problem).expect(rt, "memory");
     let head = response.head;
-    assert!(rt; head.status.code() == code && matches!(head.form, Form::Problem));
-    assert!(rt; response.body.as_slice() == body.as_bytes());
-    drop(response);
+    assert!(rt;
+        head.status == Status::Ok && matches!(head.form, Form::Json) && head.field.is_none()
+    );
+    assert!(rt; response.body.as_slice() == ROWS.as_bytes());
 }
 
+const SKIPPED: &str =
+    r#"{"type":"about:blank","title":"Conflict","status":409,"detail":"an earlier request of the session is missing","refusal":"Skip","number":12,"last_request":"3"}"#;
+
 #[test]
-fn refusals_have_a_name_and_a_number(rt: HostRuntime) {
-    is_problem(
-        &rt,
-        Problem::Refused(Refusal::Busy),
-        503,
-        r#"{"type":"about:blank","title":"Service Unavailable","status":503,"detail":"the node is too busy: nothing was done","refusal":"Busy","number":13}"#,
-    );
-    is_problem(
-        &rt,
-        Problem::Refused(Refusal::Skip(3)),
-        409,
-        r#"{"type":"about:blank","title":"Conflict","status":409,"detail":"an earlier request of the session is missing","refusal":"Skip","number":12,"last_request":"3"}"#,
-    );
-    is_problem(
-        &rt,
-        Problem::Refused(Refusal::Left),
-        410,
-        r#"{"type":"about:blank","title":"Gone","status":410,"detail":"the node has left the cluster for good","refusal":"Left","number":1}"#,
-    );
+fn a_refusal_has_a_name_and_a_number(rt: HostRuntime) {
+    let problem = Problem::Refused(Refusal::Skip(3));
+    let response = problem_response(rt.alloc(), problem).expect(&rt, "memory");
+    let head = response.head;
+    assert!(rt; head.status.code() == 409 && matches!(head.form, Form::Problem));
+    assert!(rt; response.body.as_slice() == SKIPPED.as_bytes());
 }
 
 #[test]

@@ -32,8 +32,6 @@ pub(crate) struct Hold {
     pub(crate) syncs: AtomicU64,
     pub(crate) late: AtomicU64,
     pub(crate) ended: AtomicU64,
-    /// How many asks workers were told are accepted.
-    pub(crate) asked: AtomicU64,
 }
 
 impl Hold {
@@ -46,7 +44,6 @@ impl Hold {
             syncs: AtomicU64::new(0),
             late: AtomicU64::new(0),
             ended: AtomicU64::new(0),
-            asked: AtomicU64::new(0),
         }
     }
 
@@ -58,8 +55,8 @@ impl Hold {
     }
 }
 
-/// Whether the count comes to that within so many turns.
-pub(crate) fn comes(count: &AtomicU64, least: u64, turns: u64) -> bool {
+// Whether the count comes to that within so many turns.
+fn comes(count: &AtomicU64, least: u64, turns: u64) -> bool {
     for _ in 0..turns {
         if count.load(Ordering::SeqCst) >= least {
             return true;

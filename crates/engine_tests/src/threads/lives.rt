@@ -4,12 +4,14 @@ ghost use Rattle.std.specs.Prelude.{◌≡◌, ℕ, List, None, false};
 ghost use Rattle.cc_journal.specs.declared.entry.Entry.{Entry as EntryValue};
 ghost use Rattle.cc_intake.specs.Accepting.{share_limit};
 
-use crate::sites::member;
-use crate::threads::fixtures::{Disk, opened};
+use crate::sites::{MEMBER, begun};
 use crate::threads::holding::{Hold, Holding};
-use crate::threads::stories::{Story, play};
-use cc_flush::Flusher;
-use cc_intake::{Ends, Finished, Lane, Life, finish, lane, start};
+use crate::threads::turns::fill;
+use crate::threads::workers::labour_whole;
+use cc_flush::{Back, Flusher};
+use cc_intake::{
+    Ends, Finished, Hooked, Intake, Lane, Life, Queue, Share, Turner, finish, lane, start,
+};
 use cc_node::Core;
 use cc_site::MemorySite;
 use std::marker::Brand;
@@ -18,41 +20,53 @@ use std::sync::ledger::Blank;
 use std::sync::{Mutex, Wait};
 use std::thread::Threads;
 
-/// Member 1 of 1 lives such a life, which comes to these counts.
-pub(crate) fn lives<R: Abort + AllocGlobal + Threads + Wait + Sync>(
+/// A disk in memory, with hooks round each sync.
+pub(crate) type Disk<'a> = Hooked<MemorySite, &'a Hold>;
+
+/// What may happen in a life.
+#[derive(Clone, Copy)]
+pub(crate) enum Story {
+    /// The queue is filled, and emptied by turns.
+    Full,
+    /// So many workers bring so many events each.
+    Workers(u32, u64),
+}
+
+fn opened<'a, R: Abort + AllocGlobal>(
+    rt: &R,
+    site: MemorySite,
+    hooks: &'a Hold,
+) -> (Flusher<Disk<'a>>, Core)
+    ensures { (result.0.failed ≡ None) × (result.0.owes ≡ false) × (result.1 ≡ result.0.twin.core) }
+{
+    match Flusher::open(rt.alloc(), Hooked { site, hooks }) {
+        Ok(opened) => opened,
+        Err(Back { site: _site, fault }) => panic!(rt; "the site isn't opened: {fault}"),
+    }
+}
+
+/// Member 1 of 1 lives such a life: so many events were accepted, told, flushed and not flushed.
+pub(crate) fn live<R: Abort + AllocGlobal + Threads + Wait + Sync>(
     rt: &R,
     holding: Holding,
     story: Story,
     expected: [u64; 4],
 ) -> MemorySite {
-    let site = member(rt, 2048);
     let hooks = Hold::new(holding);
-    let finished = live(rt, site, &hooks, story);
-    let came = counts(&finished) == expected;
-    let site = finished.site.site;
-    assert!(rt; came, "what was accepted is told, and flushed or left");
-    site
-}
-
-/// How many events were accepted, told, flushed and not flushed.
-pub(crate) fn counts<S>(finished: &Finished<S>) -> [u64; 4] {
-    [
+    let (engine, core) = opened(rt, begun(rt, 2048, &MEMBER), &hooks);
+    let finished = live_as::<Brand, R>(rt, engine, core, Blank::new(1 << 20), &hooks, story);
+    let counts = [
         finished.accepted,
         finished.told,
         finished.flushed,
         finished.rest,
-    ]
-}
-
-/// Opens the site, and lives a life with it.
-pub(crate) fn live<'a, R: Abort + AllocGlobal + Threads + Wait + Sync>(
-    rt: &R,
-    site: MemorySite,
-    hooks: &'a Hold,
-    story: Story,
-) -> Finished<Disk<'a>> {
-    let (engine, core) = opened(rt, site, hooks);
-    live_as::<Brand, R>(rt, engine, core, Blank::new(1 << 20), hooks, story)
+    ];
+    let site = finished.site.site;
+    assert!(rt;
+        counts == expected,
+        "what was accepted is told, and flushed or left"
+    );
+    site
 }
 
 fn live_as<'a, L: Life + Send + Sync, R: Abort + AllocGlobal + Threads + Wait + Sync>(
@@ -100,15 +114,42 @@ where
     let (intake, mut turner, queue) = start::<_, L, Q>(engine, core, blank, ends);
     let lock = Mutex::new(intake);
     let mut shares = Vec::new(rt.alloc());
-    play(
-        rt,
-        rt.alloc(),
-        hooks,
-        &lock,
-        &mut turner,
-        &queue,
-        &mut shares,
-        story,
-    );
+    play(rt, hooks, &lock, &mut turner, &queue, &mut shares, story);
     finish(rt, lock.into_inner(), shares, turner, queue)
+}
+
+// Plays a story, and hands in its shares.
+fn play<L: Life + Send + Sync, Q: Lane + Send + Sync, R>(
+    rt: &R,
+    hooks: &Hold,
+    lock: &Mutex<Intake<L, Q>>,
+    turner: &mut Turner<Disk<'_>, L, Q>,
+    queue: &Queue<L, Q>,
+    shares: &mut Vec<Share<L>>,
+    story: Story,
+)
+where
+    R: Abort + AllocGlobal + Threads + Wait + Sync,
+{
+    match story {
+        Story::Full => {
+            let share = lock.lock(rt).share();
+            let mut share = share.expect(rt, "a share");
+            fill(rt, rt.alloc(), hooks, lock, turner, queue, &mut share);
+            shares.push(share).expect(rt, "room");
+        }
+        Story::Workers(count, last) => {
+            labour_whole(
+                rt,
+                rt.alloc(),
+                hooks,
+                lock,
+                turner,
+                queue,
+                shares,
+                count,
+                last,
+            );
+        }
+    }
 }

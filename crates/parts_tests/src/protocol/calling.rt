@@ -13,63 +13,43 @@ fn check_calls<R: Abort>(rt: &R, calls: &mut Calls, seconds: u64, look: [bool; 3
     }
 }
 
-// 1, 2, 4 and then 8 seconds apart while voices go on, and anew after 8 seconds of silence.
+// 1, 2, 4 and then 8 seconds apart while voices go on, and anew after 8 seconds of silence. What is held up calls each 8 seconds,
+// and a need that is out of date in each one.
 #[test]
 fn voices_are_answered_ever_more_rarely(rt: HostRuntime) {
+    let voices = [true, false, false];
+    let silence = [false, false, false];
     let mut calls = Calls::new();
-    check_calls(
-        &rt,
-        &mut calls,
-        24,
-        [true, false, false],
-        &[1, 3, 7, 15, 23],
-    );
-    check_calls(&rt, &mut calls, 8, [false, false, false], &[]);
-    check_calls(&rt, &mut calls, 3, [true, false, false], &[1, 3]);
+    check_calls(&rt, &mut calls, 24, voices, &[1, 3, 7, 15, 23]);
+    check_calls(&rt, &mut calls, 8, silence, &[]);
+    check_calls(&rt, &mut calls, 3, voices, &[1, 3]);
+    let mut held = Calls::new();
+    check_calls(&rt, &mut held, 20, [false, false, true], &[1, 9, 17]);
+    check_calls(&rt, &mut held, 2, [false, true, false], &[1, 2]);
+    check_calls(&rt, &mut held, 9, silence, &[]);
 }
 
-#[test]
-fn what_is_held_up_calls_each_eight_seconds(rt: HostRuntime) {
-    let mut calls = Calls::new();
-    check_calls(&rt, &mut calls, 20, [false, false, true], &[1, 9, 17]);
-    check_calls(&rt, &mut calls, 2, [false, true, false], &[1, 2]);
-    check_calls(&rt, &mut calls, 9, [false, false, false], &[]);
-}
-
-const FIRST: AskName = AskName {
-    session: 7,
-    request: 1,
-};
-
-const NEXT: AskName = AskName {
-    session: 7,
-    request: 2,
-};
-
-const OTHER: AskName = AskName {
-    session: 8,
-    request: 1,
-};
-
-fn after_seconds(lasting: Lasting, asked: Option<AskName>, seconds: u64) -> Lasting {
-    let mut lasting = lasting;
-    for _ in 0..seconds {
-        lasting = lasting.after_second(asked);
-    }
-    lasting
-}
-
+// It was seen for the first time before these seconds.
 #[test]
 fn an_operation_has_lasted_for_eight_seconds(rt: HostRuntime) {
-    let seen = after_seconds(Lasting::new(), Some(FIRST), 8);
-    let long = seen.after_second(Some(FIRST));
+    let first = Some(AskName {
+        session: 7,
+        request: 1,
+    });
+    let next = Some(AskName {
+        session: 7,
+        request: 2,
+    });
+    let mut lasting = Lasting::new().after_second(first);
+    for _ in 0..7 {
+        lasting = lasting.after_second(first);
+    }
+    let long = lasting.after_second(first);
     let lasted = [
-        seen.is_long(),
+        lasting.is_long(),
         long.is_long(),
-        long.after_second(Some(FIRST)).is_long(),
-        long.after_second(Some(NEXT)).is_long(),
-        long.after_second(Some(OTHER)).is_long(),
+        long.after_second(next).is_long(),
         long.after_second(None).is_long(),
     ];
-    assert!(rt; lasted == [false, true, true, false, false, false]);
+    assert!(rt; lasted == [false, true, false, false]);
 }

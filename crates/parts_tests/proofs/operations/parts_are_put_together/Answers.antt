@@ -1,6 +1,0 @@
-use Rattle.std.proofs.Common.{arith}
-use Rattle.cc_views.specs.NatSets as set
-use Rattle.parts_tests.proofs.operations.parts_are_put_together.Goals as goal
-
-pub from_parts-requires-clause-room : goal.from_parts-requires-clause-room
-from_parts-requires-clause-room g c = rw (c.no_asks-line.ensures, c.empty.ensures) (omega (arith, set.len-empty))

@@ -1,5 +1,0 @@
-//! A whole node in memory.
-
-mod absent;
-pub mod machine;
-mod restored;
