@@ -76,13 +76,12 @@ chain:
 check:
 	@cd crates/$(CRATE) && rt check
 
-# Times single events, the engine and its checkpoints in memory and on the disk, and a script of 10,000 lines over 16
+# Times single events, the engine in memory and on the disk, and a script of 10,000 lines over 16
 # nodes, and counts the bytes that a commit copies, for which it needs a C compiler. It prints figures and fails nothing.
 bench:
 	@$(BUILD) cc_bench ccnode
 	@./crates/cc_bench/out/cc_bench events
 	@./crates/cc_bench/out/cc_bench engine
-	@./crates/cc_bench/out/cc_bench checkpoints
 	@python3 bench/copied_bytes.py crates/cc_bench/out/cc_bench
 	@sh bench/largest_script.sh > largest_script.log
 	@echo 'a script of 10,000 lines over 16 nodes:'

@@ -194,8 +194,8 @@ fn round<S: Site + Drop, C: Clock + CpuClock>(
     Ok(spent)
 }
 
-/// The engine of the first of so many members, and its core.
-pub fn opened<S: Site + Drop>(
+// The engine of the first of so many members, and its core.
+fn opened<S: Site + Drop>(
     alloc: Global,
     site: S,
     nodes: u32,
@@ -225,8 +225,8 @@ fn formatted<S: Site + Drop>(alloc: Global, site: S, nodes: u32) -> Result<S, Be
     }
 }
 
-/// Takes events in batches of so many, the last of which may be shorter. The live core is a batch ahead of the engine.
-pub fn run<S: Site + Drop>(
+// Takes events in batches of so many, the last of which may be shorter. The live core is a batch ahead of the engine.
+fn run<S: Site + Drop>(
     alloc: Global,
     engine: &mut Flusher<S>,
     live: &mut Core,

@@ -3,7 +3,6 @@
 #![tactic(auto)]
 
 mod bench_fault;
-mod checkpoint_bench;
 mod disk_bench;
 mod engine_bench;
 mod event_bench;
@@ -11,7 +10,6 @@ mod events;
 mod writer;
 
 use cc_site::MemorySite;
-use checkpoint_bench::{MovedNode, checkpoint_times};
 use disk_bench::{FOLDER, new_sides, plain_sync_nanoseconds, site_sync_nanoseconds};
 use engine_bench::{EngineLoad, Hundredths, ROUND, SECOND, engine_times};
 use event_bench::event_nanoseconds;
@@ -23,7 +21,6 @@ use writer::write_on_folder;
 const USAGE: &str = "\
 usage: cc_bench events         how long a node in memory takes for an event
        cc_bench engine         how long the engine takes for a store, in memory and on files
-       cc_bench checkpoints    how long a checkpoint and an opening take, in memory and on files
        cc_bench write DIR      writes until it is killed, in a folder that
                                `ccnode format DIR 1 --initial 1` made";
 
@@ -58,7 +55,6 @@ fn obey(rt: &HostRuntime, word: &str, folder: &str) -> anyhow::Result<bool> {
     match word {
         "events" => print_times(rt)?,
         "engine" => print_engine_times(rt)?,
-        "checkpoints" => print_checkpoint_times(rt)?,
         "write" => write_on_folder(rt, folder)?,
         _ => return Ok(false),
     }
@@ -122,36 +118,5 @@ fn print_engine_row(rt: &HostRuntime, sync: u128, load: EngineLoad) -> anyhow::R
     println!(rt;
         "{nodes} rows, batches of {batch}: in memory {memory}; on files {files}, {beside} of its syncs"
     )?;
-    Ok(())
-}
-
-// For views of 1, 16 and 256 rows, with an empty outbox and with a full one, in memory and on the disk.
-fn print_checkpoint_times(rt: &HostRuntime) -> anyhow::Result<()> {
-    fs::create_dir_all(rt, FOLDER)?;
-    let outcome = print_checkpoint_table(rt);
-    fs::remove_dir_all(rt, FOLDER)?;
-    outcome
-}
-
-fn print_checkpoint_table(rt: &HostRuntime) -> anyhow::Result<()> {
-    println!(rt;
-        "a checkpoint beside one write of as many bytes, and an opening beside one read of them:"
-    )?;
-    for nodes in [1, 16, 256] {
-        for posts in [0, 512] {
-            print_checkpoint_row(rt, MovedNode { nodes, posts })?;
-        }
-    }
-    Ok(())
-}
-
-// Over a site in memory, which keeps no output, and over two files.
-fn print_checkpoint_row(rt: &HostRuntime, node: MovedNode) -> anyhow::Result<()> {
-    let alloc = rt.alloc();
-    let MovedNode { nodes, posts } = node;
-    let memory = checkpoint_times(rt, alloc, MemorySite::new(alloc, 0)?, node)?;
-    println!(rt; "{nodes} rows, {posts} posts, in memory: {memory}")?;
-    let files = checkpoint_times(rt, alloc, new_sides(rt)?, node)?;
-    println!(rt; "{nodes} rows, {posts} posts, on files: {files}")?;
     Ok(())
 }
