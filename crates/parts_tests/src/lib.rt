@@ -32,3 +32,5 @@ mod sets;
 mod shown;
 #[cfg(test)]
 mod views;
+#[cfg(test)]
+mod web;

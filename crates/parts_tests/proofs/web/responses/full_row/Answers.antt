@@ -1,6 +1,6 @@
 use Rattle.std.proofs.Common.{ap, arith}
 use Rattle.cc_views.specs.NatSets.{NatSet, len, len_insert_at_most}
-use Rattle.web_tests.proofs.responses.full_row.Goals as goal
+use Rattle.parts_tests.proofs.web.responses.full_row.Goals as goal
 
 pub push-requires-2-clause-room : goal.push-requires-2-clause-room
 push-requires-2-clause-room c =
