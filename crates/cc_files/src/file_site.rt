@@ -197,8 +197,12 @@ impl<O: Outlet> Site for FileSite<O> {
         self.counted(done, side, Call::Sync)
     }
 
-    fn send(&mut self, to: NodeId, number: u64, message: &Message) {
-        self.outlet.send(to, number, message);
+    fn spell(&self, message: &Message) -> Option<Vec<u8>> {
+        self.outlet.spell(message)
+    }
+
+    fn send(&mut self, to: NodeId, number: u64, message: &Message, spelled: Option<&[u8]>) {
+        self.outlet.send(to, number, message, spelled);
     }
 
     fn ack(&mut self, to: NodeId, number: u64) {

@@ -1,5 +1,8 @@
 //! Where a site of files passes outputs on.
 
+ghost use Rattle.std.specs.Prelude.{◌≡◌, IfSome};
+ghost use Rattle.cc_wire.specs.Messages.{message_spelling};
+
 use cc_messages::{Answer, Message};
 use cc_site::Side;
 use cc_views::NodeId;
@@ -7,8 +10,14 @@ use std::io;
 
 /// Takes the outputs of a site, and the reasons of its failures. No call fails: what can't be passed on is lost.
 pub trait Outlet {
-    /// Passes a message on to a peer, under its number on the link to it.
-    fn send(&mut self, to: NodeId, number: u64, message: &Message);
+    /// The bytes of a message, where it is to be spelled once for all the peers that it goes to. None where nothing wants
+    /// them, or memory is refused.
+    fn spell(&self, message: &Message) -> Option<Vec<u8>>
+        ensures { IfSome result (λ bytes. bytes.items ≡ message_spelling message.now) };
+
+    /// Passes a message on to a peer, under its number on the link to it. Its bytes come along where `spell` gave them.
+    fn send(&mut self, to: NodeId, number: u64, message: &Message, spelled: Option<&[u8]>)
+        requires { IfSome spelled (λ bytes. bytes.now ≡ message_spelling message.now) };
 
     /// Tells a peer up to which number its messages were heard.
     fn ack(&mut self, to: NodeId, number: u64);
@@ -25,7 +34,11 @@ pub trait Outlet {
 pub struct NoOutlet;
 
 impl Outlet for NoOutlet {
-    fn send(&mut self, _to: NodeId, _number: u64, _message: &Message) {}
+    fn spell(&self, _message: &Message) -> Option<Vec<u8>> {
+        None
+    }
+
+    fn send(&mut self, _to: NodeId, _number: u64, _message: &Message, _spelled: Option<&[u8]>) {}
 
     fn ack(&mut self, _to: NodeId, _number: u64) {}
 

@@ -1,7 +1,8 @@
 //! What stands in a node is put to the site again.
 
-ghost use Rattle.std.specs.Prelude.{◌≡◌, ◌≤◌, nat_lt, length};
+ghost use Rattle.std.specs.Prelude.{◌≡◌, ◌≤◌, nat_lt, length, IfSome};
 ghost use Rattle.std.specs.FinMap as table;
+ghost use Rattle.cc_wire.specs.Messages.{message_spelling};
 ghost use Rattle.cc_journal.specs.Outlet.{Puts};
 ghost use Rattle.cc_flush.specs.Standing.{resend_row, resend_post, resends, reply_again, ack_again};
 ghost use Rattle.cc_links.specs.Links.{heard_from};
@@ -34,10 +35,11 @@ fn put_kept_post<S: Site>(core: &Core, site: &mut S, number: u64, post: &Message
     ensures few { result ≤ 256 }
     ensures puts { Puts S.Site (resend_post core.now (number, post.now)) site.old site.new }
 {
+    let spelled = site.spell(post);
     let rows = core.links().rows();
     let mut count = 0;
     for row in rows {
-        count += put_on_waiting_link(core, site, row, number, post);
+        count += put_on_waiting_link(core, site, row, number, post, spelled.as_deref());
     }
     count
 }
@@ -49,7 +51,9 @@ fn put_on_waiting_link<S: Site>(
     row: &LinkRow,
     number: u64,
     post: &Message,
+    spelled: Option<&[u8]>,
 ) -> u64
+    requires { IfSome spelled (λ bytes. bytes.now ≡ message_spelling post.now) }
     ensures count { result ≡ length (resend_row core.now (number, post.now) row.now) }
     ensures one { result ≤ 1 }
     ensures puts { Puts S.Site (resend_row core.now (number, post.now) row.now) site.old site.new }
@@ -63,7 +67,7 @@ fn put_on_waiting_link<S: Site>(
     if wire <= row.acked {
         return 0;
     }
-    site.send(row.peer, wire, post);
+    site.send(row.peer, wire, post, spelled);
     1
 }
 

@@ -1,11 +1,13 @@
 //! Frames: what goes over a connection.
 
-ghost use Rattle.std.specs.Prelude.{◌≡◌, ◌≤◌, ◌<◌, ◌+◌, ◌-◌, ℕ, List, [], ◌∷◌, ◌++◌, length, take, drop, IfOk, OnOk, OnErr, IsOk, Ok, vec_len};
+ghost use Rattle.std.specs.Prelude.{◌≡◌, ◌≤◌, ◌<◌, ◌+◌, ◌-◌, ℕ, List, [], ◌∷◌, ◌++◌, length, take, drop, IfOk, OnOk, OnErr, IsOk, IfSome, Ok, vec_len};
 ghost use Rattle.std.specs.Int.{w32, w64, to_be_bytes};
 ghost use Rattle.std.specs.Vec.{vec_capacity};
 ghost use Rattle.cc_frames.specs.Limits.{body_limit};
 ghost use Rattle.cc_frames.specs.declared.frame.Frame.TheVariants as frames;
 ghost use Rattle.cc_wire.specs.Writing.{Writes};
+ghost use Rattle.cc_wire.specs.Messages.{message_spelling, IsMessage};
+ghost use Rattle.cc_wire.specs.Events.{delivery_spelling, IsDelivery};
 ghost use Rattle.cc_wire.specs.Reading.{Gives, whole};
 ghost use Rattle.cc_frames.specs.Frames.{replied_spelling, IsReplied, refused_spelling, IsRefused, body_spelling, frame_spelling, IsFrame};
 ghost use Rattle.cc_frames.specs.Frames.{SpellsFrame, body_at, body_fields, replied_at, refused_at, body_length_at, enclosed_at, frame_at};
@@ -15,8 +17,8 @@ use byteorder::{BigEndian, ByteOrder};
 use cc_messages::{Answer, Command, Message, PostRange, Share};
 use cc_views::{NoMemory, NodeId};
 use cc_wire::{
-    Reader, WireFault, put_answer, put_asked, put_delivery, put_id, put_numbered, put_place,
-    put_share, put_skip, put_u8, put_u32, put_u64, settled,
+    Reader, WireFault, message_is_spellable, put_answer, put_asked, put_id, put_message,
+    put_numbered, put_place, put_share, put_skip, put_u8, put_u32, put_u64, settled,
 };
 use std::alloc::{AllocError, Global};
 
@@ -304,18 +306,53 @@ fn put_refused(
     put_refusal(out, refusal, value)
 }
 
+// Appends a message, whose bytes are copied where they are at hand.
+fn put_spelled(
+    out: &mut Vec<u8>,
+    message: &Message,
+    spelled: Option<&[u8]>,
+) -> Result<(), AllocError>
+    requires { IfSome spelled (λ bytes. bytes.now ≡ message_spelling message.now) }
+    ensures writes { Writes out.old out.new (message_spelling message.now) result }
+    ensures fits { OnOk result (IsMessage message.now) }
+{
+    let Some(bytes) = spelled else {
+        return put_message(out, message);
+    };
+    message_is_spellable(message);
+    out.extend_from_slice(bytes)
+}
+
+// Appends a message that came from a node under a number.
+fn put_spelled_delivery(
+    out: &mut Vec<u8>,
+    from: NodeId,
+    number: u64,
+    message: &Message,
+    spelled: Option<&[u8]>,
+) -> Result<(), AllocError>
+    requires { IfSome spelled (λ bytes. bytes.now ≡ message_spelling message.now) }
+    ensures writes { Writes out.old out.new (delivery_spelling from number message.now) result }
+    ensures fits { OnOk result (IsDelivery from number message.now) }
+{
+    put_numbered(out, from, number)?;
+    put_spelled(out, message, spelled)
+}
+
 // The body that brings a message.
 fn put_post_body(
     out: &mut Vec<u8>,
     from: NodeId,
     number: u64,
     message: &Message,
+    spelled: Option<&[u8]>,
 ) -> Result<(), AllocError>
+    requires { IfSome spelled (λ bytes. bytes.now ≡ message_spelling message.now) }
     ensures writes { Writes out.old out.new (body_spelling (frames.Post from number message.now)) result }
     ensures fits { OnOk result (IsFrame (frames.Post from number message.now)) }
 {
     put_u8(out, 1)?;
-    put_delivery(out, from, number, message)
+    put_spelled_delivery(out, from, number, message, spelled)
 }
 
 // The body that brings an answer.
@@ -341,7 +378,7 @@ fn put_body(out: &mut Vec<u8>, frame: &Frame) -> Result<(), AllocError>
             from,
             number,
             message,
-        } => put_post_body(out, *from, *number, message),
+        } => put_post_body(out, *from, *number, message, None),
         Frame::Ack { from, number } => {
             put_u8(out, 2)?;
             put_numbered(out, *from, *number)
@@ -469,13 +506,15 @@ fn put_post(
     from: NodeId,
     number: u64,
     message: &Message,
+    spelled: Option<&[u8]>,
 ) -> Result<(), AllocError>
+    requires { IfSome spelled (λ bytes. bytes.now ≡ message_spelling message.now) }
     ensures writes { Writes out.old out.new (frame_spelling (frames.Post from number message.now)) result }
     ensures fits { OnOk result (IsFrame (frames.Post from number message.now)) }
 {
     let start = out.len();
     put_u32(out, 0)?;
-    put_post_body(out, from, number, message)?;
+    put_post_body(out, from, number, message, spelled)?;
     close_body(out, start);
     Ok(())
 }
@@ -509,20 +548,22 @@ pub fn encode_frame(frame: &Frame, out: &mut Vec<u8>) -> Result<(), NoMemory>
 }
 
 /// Appends the spelling of the frame that brings a message, the one with this number on the link from a node. The message
-/// isn't copied. On an `Err` nothing has changed.
+/// isn't copied, nor spelled where its bytes are at hand. On an `Err` nothing has changed.
 pub fn encode_post(
     from: NodeId,
     number: u64,
     message: &Message,
+    spelled: Option<&[u8]>,
     out: &mut Vec<u8>,
 ) -> Result<(), NoMemory>
+    requires { IfSome spelled (λ bytes. bytes.now ≡ message_spelling message.now) }
     ensures spelled { OnOk result (SpellsFrame (frame_spelling (frames.Post from number message.now)) (frames.Post from number message.now)) }
     ensures ok { OnOk result (out.new.items ≡ out.old.items ++ frame_spelling (frames.Post from number message.now)) }
     ensures err { OnErr result (out.new.items ≡ out.old.items) }
     ensures room { vec_len out.old + length (frame_spelling (frames.Post from number message.now)) ≤ vec_capacity out.old → IsOk result }
 {
     let start = out.len();
-    let put = put_post(out, from, number, message);
+    let put = put_post(out, from, number, message, spelled);
     settled(out, start, put)
 }
 

@@ -109,8 +109,12 @@ impl<S: Site, H: Hooks> Site for Hooked<S, H> {
         synced
     }
 
-    fn send(&mut self, to: NodeId, number: u64, message: &Message) {
-        self.site.send(to, number, message);
+    fn spell(&self, message: &Message) -> Option<Vec<u8>> {
+        self.site.spell(message)
+    }
+
+    fn send(&mut self, to: NodeId, number: u64, message: &Message, spelled: Option<&[u8]>) {
+        self.site.send(to, number, message, spelled);
     }
 
     fn ack(&mut self, to: NodeId, number: u64) {

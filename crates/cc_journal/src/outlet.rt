@@ -1,8 +1,9 @@
 //! The outputs of durable events are put to the site.
 
-ghost use Rattle.std.specs.Prelude.{◌≡◌, ◌≤◌, ◌∷◌, [], Some, map, option_map};
+ghost use Rattle.std.specs.Prelude.{◌≡◌, ◌≤◌, ◌∷◌, [], Some, map, option_map, IfSome};
 ghost use Rattle.std.specs.FinMap as table;
 ghost use Rattle.cc_links.specs.Links.{LinksWithin};
+ghost use Rattle.cc_wire.specs.Messages.{message_spelling};
 ghost use Rattle.cc_node.specs.Core.{send_ack, send_post, send_replies, outputs};
 ghost use Rattle.cc_node.specs.Node.{step};
 ghost use Rattle.cc_journal.specs.Batches.{AreLawful};
@@ -88,19 +89,27 @@ fn put_on_links<S: Site>(site: &mut S, core: &Core, post: &Message)
     requires { LinksWithin core.now.posts core.now.links }
     ensures { Puts S.Site (send_post core.now (Some post.now)) site.old site.new }
 {
+    let spelled = site.spell(post);
     let rows = core.links().rows();
     for row in rows {
-        put_on_link(site, core, row, post);
+        put_on_link(site, core, row, post, spelled.as_deref());
     }
 }
 
 // Puts the last post on a link, unless its peer has left.
-fn put_on_link<S: Site>(site: &mut S, core: &Core, row: &LinkRow, post: &Message)
-    requires { row.now.start ≤ core.now.posts }
+fn put_on_link<S: Site>(
+    site: &mut S,
+    core: &Core,
+    row: &LinkRow,
+    post: &Message,
+    spelled: Option<&[u8]>,
+)
+    requires started { row.now.start ≤ core.now.posts }
+    requires spelled { IfSome spelled (λ bytes. bytes.now ≡ message_spelling post.now) }
     ensures { Puts S.Site (on_link core.now post.now row.now) site.old site.new }
 {
     if !core.churn().has_left(row.peer) {
-        site.send(row.peer, core.posts() - row.start, post);
+        site.send(row.peer, core.posts() - row.start, post, spelled);
     }
 }
 

@@ -1,6 +1,7 @@
 //! Which event a frame brings, and which frame an output or a refusal is.
 
-ghost use Rattle.std.specs.Prelude.{◌≡◌, ◌++◌, ℕ, Some, IfOk, OnOk};
+ghost use Rattle.std.specs.Prelude.{◌≡◌, ◌++◌, ℕ, Some, IfOk, IfSome, OnOk};
+ghost use Rattle.cc_wire.specs.Messages.{message_spelling};
 ghost use Rattle.cc_frames.specs.Frames.{frame_spelling};
 ghost use Rattle.cc_messages.specs.declared.output.Output.TheVariants as output;
 ghost use Rattle.cc_protocol.specs.Frames.{event_in, output_frame, refusing, refusal_frame, skip_spelling, due_spelling};
@@ -9,6 +10,7 @@ use crate::withheld::Due;
 use cc_frames::{Frame, encode_frame, encode_post, encode_reply};
 use cc_messages::{Answer, Event, Message, PostRange, Refusal};
 use cc_views::{NoMemory, NodeId};
+use cc_wire::encode_message;
 use std::alloc::Global;
 
 /// The event that a frame brings. None for a frame that a node only sends, and for a greeting: then the connection is to be
@@ -55,21 +57,32 @@ pub fn skip_bytes(alloc: Global, me: NodeId, posts: PostRange) -> Result<Vec<u8>
     Ok(bytes)
 }
 
+/// The bytes of a message, which `due_bytes` takes for each peer that it goes to.
+pub fn message_bytes(alloc: Global, message: &Message) -> Result<Vec<u8>, NoMemory>
+    ensures { IfOk result (λ v. v.items ≡ message_spelling message.now) }
+{
+    let mut bytes = Vec::new(alloc);
+    encode_message(message, &mut bytes)?;
+    Ok(bytes)
+}
+
 /// The bytes of what is due to a peer once a message of the node `me` was put for it, under this number of its link. The
-/// message isn't copied, and it is spelled only where it is due.
+/// message isn't copied, and it is spelled only where it is due and its bytes aren't at hand.
 pub fn due_bytes(
     alloc: Global,
     me: NodeId,
     due: &Due,
     number: u64,
     message: &Message,
+    spelled: Option<&[u8]>,
 ) -> Result<Vec<u8>, NoMemory>
+    requires { IfSome spelled (λ bytes. bytes.now ≡ message_spelling message.now) }
     ensures { IfOk result (λ v. v.items ≡ due_spelling me due.now number message.now) }
 {
     let mut bytes = Vec::new(alloc);
     put_skip(&mut bytes, me, due.skip)?;
     if due.has_post {
-        encode_post(me, number, message, &mut bytes)?;
+        encode_post(me, number, message, spelled, &mut bytes)?;
     }
     Ok(bytes)
 }

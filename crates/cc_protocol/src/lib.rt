@@ -34,7 +34,9 @@ pub use asking::{
 };
 pub use bundle::{Bundle, Parcel};
 pub use calling::{Calls, snapshots_keep_apart};
-pub use frames::{ack_frame, due_bytes, event_of, refused_frame, reply_bytes, skip_bytes};
+pub use frames::{
+    ack_frame, due_bytes, event_of, message_bytes, refused_frame, reply_bytes, skip_bytes,
+};
 pub use greeting::{
     Greeted, Greeter, Greetings, Met, PeerGreeting, Recipient, answer_to, greeter_after,
     greetings_are_remembered, is_old_copy, met_by, why_unwelcome,

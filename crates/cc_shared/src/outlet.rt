@@ -1,13 +1,14 @@
 //! The outlet of a node: the channels to its peers and to itself, and its connections.
 
-ghost use Rattle.std.specs.Prelude.{◌≤◌};
+ghost use Rattle.std.specs.Prelude.{◌≡◌, ◌≤◌, IfSome};
+ghost use Rattle.cc_wire.specs.Messages.{message_spelling};
 
 use crate::notes::Note;
 use crate::shared::Shared;
 use cc_channels::PeerChannel;
 use cc_files::Outlet;
 use cc_messages::{Answer, Event, Message};
-use cc_protocol::{Due, Parcel, due_bytes, reply_bytes};
+use cc_protocol::{Due, Parcel, due_bytes, message_bytes, reply_bytes};
 use cc_site::Side;
 use cc_views::NodeId;
 use std::alloc::Global;
@@ -47,6 +48,15 @@ impl<'a, R: Wait> ServerOutlet<'a, R> {
         self.answers_to_all || message.is_for(peer)
     }
 
+    // Whether more than one node may get a message.
+    fn goes_to_many(&self, message: &Message) -> bool {
+        let is_answer = matches!(
+            message,
+            Message::QueryReply { .. } | Message::StoreAck { .. }
+        );
+        self.answers_to_all || !is_answer
+    }
+
     // What the node posts to itself comes as to any peer.
     fn deliver(&self, from: NodeId, number: u64, message: &Message)
         requires { 1 ≤ number }
@@ -73,8 +83,16 @@ impl<'a, R: Wait> ServerOutlet<'a, R> {
         }
     }
 
-    fn post(&self, me: NodeId, channel: &PeerChannel, number: u64, message: &Message)
-        requires { 1 ≤ number }
+    fn post(
+        &self,
+        me: NodeId,
+        channel: &PeerChannel,
+        number: u64,
+        message: &Message,
+        spelled: Option<&[u8]>,
+    )
+        requires numbered { 1 ≤ number }
+        requires spelled { IfSome spelled (λ bytes. bytes.now ≡ message_spelling message.now) }
     {
         channel.marks().post(number);
         if channel.is_muted() {
@@ -86,17 +104,26 @@ impl<'a, R: Wait> ServerOutlet<'a, R> {
         if due.skip.is_some() {
             self.shared.gauges.send_skip();
         }
-        if let Some(bytes) = self.spelled(me, &due, number, message) {
+        if let Some(bytes) = self.frames(me, &due, number, message, spelled) {
             channel.put(self.rt, me, Parcel::Post(bytes));
         }
     }
 
     // The bytes of what is due to a peer, if anything is.
-    fn spelled(&self, me: NodeId, due: &Due, number: u64, message: &Message) -> Option<Vec<u8>> {
+    fn frames(
+        &self,
+        me: NodeId,
+        due: &Due,
+        number: u64,
+        message: &Message,
+        spelled: Option<&[u8]>,
+    ) -> Option<Vec<u8>>
+        requires { IfSome spelled (λ bytes. bytes.now ≡ message_spelling message.now) }
+    {
         if due.skip.is_none() && !due.has_post {
             return None;
         }
-        due_bytes(self.alloc, me, due, number, message).ok()
+        due_bytes(self.alloc, me, due, number, message, spelled).ok()
     }
 
     // The bytes of an answer as its client reads them.
@@ -114,7 +141,14 @@ impl<'a, R: Wait> ServerOutlet<'a, R> {
 }
 
 impl<R: Wait> Outlet for ServerOutlet<'_, R> {
-    fn send(&mut self, to: NodeId, number: u64, message: &Message) {
+    fn spell(&self, message: &Message) -> Option<Vec<u8>> {
+        if !self.goes_to_many(message) {
+            return None;
+        }
+        message_bytes(self.alloc, message).ok()
+    }
+
+    fn send(&mut self, to: NodeId, number: u64, message: &Message, spelled: Option<&[u8]>) {
         let Some(me) = self.shared.me.get() else {
             return;
         };
@@ -124,7 +158,7 @@ impl<R: Wait> Outlet for ServerOutlet<'_, R> {
         if to == *me {
             self.deliver(to, number, message);
         } else if let Some(channel) = self.shared.channel_to(to) {
-            self.post(*me, channel, number, message);
+            self.post(*me, channel, number, message, spelled);
             self.is_due = true;
         }
     }

@@ -300,7 +300,11 @@ impl Site for MemorySite {
         count(outcome.is_err(), &mut self.failures, side, Call::Sync)
     }
 
-    fn send(&mut self, to: NodeId, number: u64, message: &Message)
+    fn spell(&self, _message: &Message) -> Option<Vec<u8>> {
+        None
+    }
+
+    fn send(&mut self, to: NodeId, number: u64, message: &Message, _spelled: Option<&[u8]>)
         ensures kept { Keeps (Some (Send to number message.now)) self.old self.new ⊎ Keeps None self.old self.new }
         ensures tells { memory_lost self.new ≡ 0 → (memory_lost self.old ≡ 0)
             × (memory_outputs self.new ≡ memory_outputs self.old ++ Send to number message.now ∷ []) }

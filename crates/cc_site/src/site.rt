@@ -1,8 +1,9 @@
 //! A site: two byte files and an outlet. Its disk model is this project's own.
 
-ghost use Rattle.std.specs.Prelude.{◌≡◌, ◌⊎◌, ◌↔◌, ◌+◌, ◌<◌, ◌≤◌, ◌++◌, [], ◌∷◌, ℕ, List, length, take, drop, slice_index, OnOk, OnErr, IfOk};
+ghost use Rattle.std.specs.Prelude.{◌≡◌, ◌⊎◌, ◌↔◌, ◌+◌, ◌<◌, ◌≤◌, ◌++◌, [], ◌∷◌, ℕ, List, length, take, drop, slice_index, OnOk, OnErr, IfOk, IfSome};
 ghost use Rattle.cc_messages.specs.declared.output.Output.{Output};
 ghost use Rattle.cc_messages.specs.declared.output.Output.TheVariants.{Send, Ack, Reply};
+ghost use Rattle.cc_wire.specs.Messages.{message_spelling};
 ghost use Rattle.cc_site.specs.declared.site.Call.TheVariants.{Length, Read, Write, Cut, Sync};
 ghost use Rattle.cc_site.specs.Sides.{SideState, MayLeave, HalfWritten, HalfCut, other, touch, written, shift, cut_to, settled};
 ghost use Rattle.cc_site.specs.Moments.{Contents, Possible, Within, Nothing, Elapses, CountsFault};
@@ -184,8 +185,14 @@ pub trait Site {
         ensures time { honest self.old → Elapses (moment self.old) (moment self.new) (left_since self.old) (left_since self.new) Nothing }
         ensures fault { CountsFault (failures self.old) (failures self.new) side Sync result };
 
-    /// Passes a message on to a peer, under its number on the link to it.
-    fn send(&mut self, to: NodeId, number: u64, message: &Message)
+    /// The bytes of a message, where the outlet wants them: one spelling serves all the peers that the message goes to.
+    /// None where it wants none, or memory is refused.
+    fn spell(&self, message: &Message) -> Option<Vec<u8>>
+        ensures { IfSome result (λ bytes. bytes.items ≡ message_spelling message.now) };
+
+    /// Passes a message on to a peer, under its number on the link to it. Its bytes come along where `spell` gave them.
+    fn send(&mut self, to: NodeId, number: u64, message: &Message, spelled: Option<&[u8]>)
+        requires spelled { IfSome spelled (λ bytes. bytes.now ≡ message_spelling message.now) }
         ensures honest { honest self.old ↔ honest self.new }
         ensures tells { tells self.new → tells self.old × (sent self.new ≡ sent self.old ++ Send to number message.now ∷ []) }
         ensures same { honest self.old → state self.new ≡ state self.old }

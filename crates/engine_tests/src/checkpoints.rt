@@ -2,7 +2,7 @@
 
 use crate::openings::{ENTERED_ENTRANT, FIFTH, FOURTH};
 use crate::parts::Part;
-use crate::sites::{CLOSED, ENTRANT, Laid, MEMBER, begun, laid, side_of, with_laid};
+use crate::sites::{CLOSED, ENTRANT, Laid, MEMBER, begun, has, laid, with_laid};
 use crate::steps::{Came, Step, run};
 use crate::versions::{ENTRANT_STATE, FIRST_MEMBER_SIDE, FIRST_SIDE, MEMBER_STATE, SECOND_SIDE};
 use cc_flush::CheckpointFault;
@@ -58,6 +58,13 @@ const LAST_MEMBER_BUT_ONE: Laid = [
     &[0],
 ];
 
+// Entrant 4 once it has entered and left in one batch: one record of both events behind the open gate, and a closed gate.
+const GONE_ENTRANT: Laid = [
+    &[0xA5, 0, 0, 0, 0, 0, 0, 0, 1, 2, 0, 0, 0, 0x8B],
+    &ENTRANT_STATE,
+    &[0xA5, 0, 0, 0, 11, 2, 0, 0, 0, 1, 1, 0, 0, 0, 1, 2, 0],
+];
+
 // Member 1 of 1, and behind its state an open gate, a record of one event, Share 8, and a closed gate.
 const TOLD_EIGHT: Laid = [
     &[0xA5, 0, 0, 0, 0, 0, 0, 0, 1, 2, 0, 0, 0, 0x77],
@@ -94,10 +101,10 @@ const SHARED: Laid = [
 // Whether this stands on side A and on side B of a site.
 fn are_sides<R: Abort + AllocGlobal>(rt: &R, site: MemorySite, a: &Laid, b: &Laid) -> bool {
     let mut site = site;
-    let of_a = side_of(rt, &mut site, Side::A);
-    let of_b = side_of(rt, &mut site, Side::B);
+    let is_a = has(rt, &mut site, Side::A, &laid(rt, a));
+    let is_b = has(rt, &mut site, Side::B, &laid(rt, b));
     drop(site);
-    of_a.as_slice() == laid(rt, a).as_slice() && of_b.as_slice() == laid(rt, b).as_slice()
+    is_a && is_b
 }
 
 #[test]
@@ -125,16 +132,20 @@ fn check_steps<R: Abort + AllocGlobal>(
 
 const ENTER: Step = Step::Turn(Part::Enter);
 
+const VISIT: Step = Step::Turn(Part::Visit);
+
 const SHARE_EIGHT: Step = Step::Turn(Part::Share(8));
 
 const SHARE_ONE: Step = Step::Turn(Part::Share(1));
 
-// A record stands behind its open gate.
+// A record stands behind its open gate, whether it has one event or two.
 #[test]
 fn a_batch_is_a_record(rt: HostRuntime) {
     let entered = (&ENTERED_ENTRANT, &CLOSED);
+    let gone = (&GONE_ENTRANT, &CLOSED);
     let told = (&TOLD_EIGHT, &CLOSED);
     check_steps(&rt, (&BEGUN_ENTRANT, &CLOSED), &[ENTER], Ok(0), entered);
+    check_steps(&rt, (&BEGUN_ENTRANT, &CLOSED), &[VISIT], Ok(0), gone);
     check_steps(&rt, (&BEGUN_MEMBER, &CLOSED), &[SHARE_EIGHT], Ok(0), told);
 }
 

@@ -1,5 +1,5 @@
-//! Tests of the engine over a site in memory, of the threads that hand events to it, and of a first life, by public calls
-//! alone.
+//! Tests of the crates of the disk, of the engine over a site in memory, of the threads that hand events to it, and of a
+//! first life, by public calls alone.
 #![tactic(auto)]
 
 #[cfg(test)]
@@ -7,7 +7,11 @@ mod checkpoints;
 #[cfg(test)]
 mod commits;
 #[cfg(test)]
+mod disk;
+#[cfg(test)]
 mod first_lives;
+#[cfg(test)]
+mod lives;
 #[cfg(test)]
 mod long_states;
 #[cfg(test)]

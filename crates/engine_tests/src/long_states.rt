@@ -1,9 +1,9 @@
 //! A checkpoint of a node whose state is written and read in several pieces.
 
-use crate::parts::id;
-use crate::sites::{CLOSED, laid, side_of, with_laid};
+use crate::parts::{id, settle};
+use crate::reopenings::{Act, ForgetfulSite, acted};
+use crate::sites::{laid, node_of, side_of, two_sides};
 use crate::steps::{Step, run, state_of};
-use crate::whole_life::settle;
 use cc_changes::Fraction;
 use cc_checkpoint::encode_image;
 use cc_messages::{Event, Message};
@@ -42,7 +42,7 @@ fn member_of_250<R: Abort + AllocGlobal>(rt: &R) -> Node {
         gamma: share,
         share: 1,
     };
-    Node::fresh(rt.alloc(), &opening).expect(rt, "a node")
+    node_of(rt, &opening)
 }
 
 // A node's first message comes.
@@ -55,9 +55,9 @@ fn hear<R: Abort + AllocGlobal>(rt: &R, node: &mut Node, from: u32, message: Mes
     settle(rt, node, event);
 }
 
-// Side A of a member of 250 under generation 1. Member 2 has stored a long view, and six nodes have entered. The echo to each
-// of them is kept, with the view.
-fn long_side<R: Abort + AllocGlobal>(rt: &R) -> Vec<u8> {
+/// A member of 250. Member 2 has stored a long view, and six nodes have entered. The echo to each of them is kept, with the
+/// view.
+pub fn long_node<R: Abort + AllocGlobal>(rt: &R) -> Node {
     let mut node = member_of_250(rt);
     let stored = Message::Store {
         view: long_view(rt),
@@ -69,6 +69,12 @@ fn long_side<R: Abort + AllocGlobal>(rt: &R) -> Vec<u8> {
         let enters = Message::Enter { node: id(entrant) };
         hear(rt, &mut node, entrant, enters);
     }
+    node
+}
+
+// Side A of that node under generation 1.
+fn long_side<R: Abort + AllocGlobal>(rt: &R) -> Vec<u8> {
+    let node = long_node(rt);
     let image = encode_image(rt.alloc(), 1, &node).expect(rt, "an image");
     drop(node);
     laid(rt, &[&[0xA5], &image])
@@ -80,13 +86,24 @@ fn long_side<R: Abort + AllocGlobal>(rt: &R) -> Vec<u8> {
 fn a_state_longer_than_two_pieces_is_moved(rt: HostRuntime) {
     let side = long_side(&rt);
     assert!(rt; side.len() > 131_072 + 15);
-    let (mut site, came) = run(&rt, with_laid(&rt, &[&side], &CLOSED), &[Step::Checkpoint]);
+    let (mut site, came) = run(&rt, two_sides(&rt, &side, &[0]), &[Step::Checkpoint]);
     let a = side_of(&rt, &mut site, Side::A);
     let b = side_of(&rt, &mut site, Side::B);
     drop(site);
     assert!(rt; came == Ok(0) && a.as_slice() == [0].as_slice());
     assert!(rt; b.get(..9) == Some([0xA5, 0, 0, 0, 0, 0, 0, 0, 2].as_slice()));
     assert!(rt; b.get(9..) == side.get(9..));
-    let state = state_of(&rt, with_laid(&rt, &[&a], &[&b]));
+    let state = state_of(&rt, two_sides(&rt, &a, &b));
     assert!(rt; side.get(14..) == Some(laid(&rt, &[&state, &[0]]).as_slice()));
+}
+
+#[test]
+fn a_long_state_is_written_in_pieces(rt: HostRuntime) {
+    let side = long_side(&rt);
+    let site = ForgetfulSite::with_side(&rt, 262_144, &side);
+    let (site, is_done) = acted(&rt, site, 0, Act::Move);
+    let is_whole = site.shown(Side::B) == side.len();
+    let longest = site.longest();
+    drop((site, side));
+    assert!(rt; is_done && is_whole && longest <= 65_536);
 }

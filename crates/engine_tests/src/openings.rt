@@ -4,10 +4,9 @@ use crate::sites::{CLOSED, ENTRANT, Laid, empty, laid, with_laid};
 use crate::steps::left_of;
 use crate::versions::ENTRANT_STATE;
 use cc_checkpoint::OpenFault;
-use cc_flush::{Back, CheckpointFault, Failed, FormatFault, format};
+use cc_flush::{Back, FormatFault, format};
 use cc_node::Opening;
-use cc_site::{Call, DeviceFault, MemorySite, Side};
-use std::fmt::Display;
+use cc_site::{Failing, MemorySite, Side};
 use std::process::Abort;
 use std::test::*;
 
@@ -187,31 +186,25 @@ fn no_armed_side_and_no_node_without_a_name_is_formatted(rt: HostRuntime) {
     assert!(rt; fault == Some(FormatFault::BadOpening));
 }
 
-const WRITE: DeviceFault = DeviceFault {
-    side: Side::A,
-    call: Call::Write,
-};
-
-const NAMES: [(FormatFault, &str); 4] = [
-    (FormatFault::BadOpening, "BadOpening"),
-    (FormatFault::NoMemory, "NoMemory"),
-    (FormatFault::Device(WRITE), "Device A Write"),
-    (FormatFault::AlreadyFormatted, "AlreadyFormatted"),
-];
-
-fn says<R: Abort + AllocGlobal, F: Display>(rt: &R, fault: &F, wanted: &str) -> bool {
-    let said = format!(in rt.alloc(); "{fault}").expect(rt, "a text");
-    said.as_str() == wanted
+// A site whose formatting failed at that disk call, and at no other.
+fn half_formatted<R: Abort + AllocGlobal>(rt: &R, at: u64) -> MemorySite {
+    let mut site = empty(rt, 0);
+    site.fuse(at, Failing::Once);
+    match format(rt.alloc(), site, &ENTRANT) {
+        Ok(site) => {
+            drop(site);
+            panic!(rt; "no disk call fails")
+        }
+        Err(Back { site, fault: _ }) => site,
+    }
 }
 
+// Of the 16 disk calls only the last one, a sync, comes behind the open gate.
 #[test]
-fn faults_print_their_names(rt: HostRuntime) {
-    for (fault, name) in &NAMES {
-        assert!(rt; says(&rt, fault, *name));
+fn formatting_may_be_tried_again_until_the_gate_is_open(rt: HostRuntime) {
+    for at in 0..16 {
+        let again = fault_of_format(&rt, half_formatted(&rt, at), &ENTRANT);
+        let wanted = (at == 15).then_some(FormatFault::AlreadyFormatted);
+        assert!(rt; again == wanted, "{at}");
     }
-    let failed = Failed { fault: WRITE };
-    let moving = CheckpointFault::Failed(failed);
-    assert!(rt; says(&rt, &failed, "Failed A Write"));
-    assert!(rt; says(&rt, &moving, "Failed A Write"));
-    assert!(rt; says(&rt, &CheckpointFault::Spent, "Spent"));
 }

@@ -12,29 +12,39 @@ use cc_node::{Core, Node};
 use cc_views::{NodeId, Text};
 use std::process::Abort;
 
-/// Which batch is committed: the node's Enter; the ask of a store in session 7, as its first request; that ask, its post as
-/// it comes back and the acknowledgement of that; the two deliveries that follow the ask; the ask of a collect after them;
-/// the first ask of a session, which sets the flag; the own post of that number, as it comes back; a lapse of what is kept
-/// for the node itself, and its snapshot; the snapshot alone; the node's leaving; or the share that it is told.
+/// Which batch is committed.
 #[derive(Clone, Copy)]
 pub enum Part {
+    /// The node enters.
     Enter,
+    /// It enters and leaves.
+    Visit,
+    /// Session 7 asks for a store, as its first request.
     Ask,
+    /// The same; then its post comes back, and the acknowledgement of that.
     Store,
+    /// The two deliveries that follow the ask.
     Deliveries,
+    /// Session 7 asks for a collect, as its second request.
     Collect,
+    /// A session sets the flag, by its first request.
     Flag(u64),
+    /// The own post of that number comes back.
     Own(u64),
+    /// What is kept for the node itself lapses, and the node makes a snapshot.
     Away,
+    /// The node makes a snapshot.
     Snapshot,
+    /// It leaves.
     Leave,
+    /// It is told that share.
     Share(u8),
 }
 
 /// The first event of a part.
 pub fn first_of<R: Abort + AllocGlobal>(rt: &R, node: &Node, part: Part) -> Event {
     match part {
-        Part::Enter => Event::Enter,
+        Part::Enter | Part::Visit => Event::Enter,
         Part::Ask | Part::Store => Event::Ask {
             session: 7,
             request: 1,
@@ -75,6 +85,21 @@ fn delivery<R: Abort + AllocGlobal>(rt: &R, number: u64, post: Option<&Message>)
         number,
         message,
     }
+}
+
+/// A node takes an event in, which it doesn't refuse.
+pub fn settle<R: Abort + AllocGlobal>(rt: &R, node: &mut Node, event: Event) {
+    let made = node
+        .core()
+        .made_or_refused(rt.alloc(), &event)
+        .expect(rt, "the event is taken");
+    node.settle(event, made);
+}
+
+/// The own post of that number comes back to node 1.
+pub fn deliver<R: Abort + AllocGlobal>(rt: &R, node: &mut Node, number: u64) {
+    let event = delivery(rt, number, node.outbox().post(number));
+    settle(rt, node, event);
 }
 
 /// The entry of an event that a core takes.
@@ -148,6 +173,7 @@ fn fill<R: Abort + AllocGlobal>(rt: &R, node: &Node, live: &mut Core, batch: &mu
         }
         Part::Deliveries => add_delivery(rt, node, live, batch, 2),
         Part::Away => add(rt, node, live, batch, Event::Snapshot),
+        Part::Visit => add(rt, node, live, batch, Event::Leave),
         _ => {}
     }
 }

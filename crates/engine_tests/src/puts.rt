@@ -33,7 +33,8 @@ fn kind_of(message: &Message) -> Kind {
     }
 }
 
-fn put_of(output: &Output) -> Put {
+/// What an output puts.
+pub fn put_of(output: &Output) -> Put {
     match output {
         Output::Send {
             to,

@@ -28,9 +28,6 @@ impl Byte {
     };
 }
 
-// How many bytes a file has room for.
-const ROOM: usize = 1_024;
-
 // A file: its bytes, how many of them reads show, and how many the disk has.
 #[derive(Drop)]
 struct Pages {
@@ -40,9 +37,10 @@ struct Pages {
 }
 
 impl Pages {
-    fn new<R: Abort + AllocGlobal>(rt: &R) -> Self {
+    // With room for so many bytes.
+    fn new<R: Abort + AllocGlobal>(rt: &R, room: usize) -> Self {
         Pages {
-            bytes: vec![in rt.alloc(); Byte::ZERO; ROOM].expect(rt, "room"),
+            bytes: vec![in rt.alloc(); Byte::ZERO; room].expect(rt, "room"),
             shown: 0,
             kept: 0,
         }
@@ -93,18 +91,50 @@ impl Pages {
     }
 }
 
-// Two such files. The sync with one number fails, and those behind another one reach no disk any more.
+/// Two such files. The sync with one number fails, and those behind another one reach no disk any more.
 #[derive(Drop)]
-struct ForgetfulSite {
+pub(crate) struct ForgetfulSite {
     a: Pages,
     b: Pages,
     syncs: u64,
     fails_at: u64,
     power_until: u64,
     failures: u64,
+    // How many bytes one write had at most.
+    longest: usize,
 }
 
 impl ForgetfulSite {
+    // Empty sides, each with room for so many bytes. No sync fails.
+    fn new<R: Abort + AllocGlobal>(rt: &R, room: usize) -> Self {
+        ForgetfulSite {
+            a: Pages::new(rt, room),
+            b: Pages::new(rt, room),
+            syncs: 0,
+            fails_at: 0,
+            power_until: u64::MAX,
+            failures: 0,
+            longest: 0,
+        }
+    }
+
+    /// The same, whose side A has these bytes.
+    pub(crate) fn with_side<R: Abort + AllocGlobal>(rt: &R, room: usize, side: &[u8]) -> Self {
+        let mut site = ForgetfulSite::new(rt, room);
+        site.a.write(0, side);
+        site
+    }
+
+    /// How many bytes of a side reads show.
+    pub(crate) fn shown(&self, side: Side) -> usize {
+        self.pages(side).shown
+    }
+
+    /// How many bytes one write had at most.
+    pub(crate) fn longest(&self) -> usize {
+        self.longest
+    }
+
     const fn pages(&self, side: Side) -> &Pages {
         match side {
             Side::A => &self.a,
@@ -172,7 +202,8 @@ impl Site for ForgetfulSite {
             Side::A => self.a.write(place as usize, bytes),
             Side::B => self.b.write(place as usize, bytes),
         }
-        let has_room = self.pages(side).shown <= ROOM;
+        self.longest = self.longest.max(bytes.len());
+        let has_room = self.pages(side).shown <= self.pages(side).bytes.len();
         self.told(has_room, side, Call::Write)
     }
 
@@ -195,7 +226,11 @@ impl Site for ForgetfulSite {
         self.told(is_done, side, Call::Sync)
     }
 
-    fn send(&mut self, _to: NodeId, _number: u64, _message: &Message) {}
+    fn spell(&self, _message: &Message) -> Option<Vec<u8>> {
+        None
+    }
+
+    fn send(&mut self, _to: NodeId, _number: u64, _message: &Message, _spelled: Option<&[u8]>) {}
 
     fn ack(&mut self, _to: NodeId, _number: u64) {}
 
@@ -218,15 +253,15 @@ fn opened<R: Abort + AllocGlobal>(
     }
 }
 
-// What an engine is asked for: to set the flag for a session that never asked, or to move.
+/// What an engine is asked for: to set the flag for a session that never asked, or to move.
 #[derive(Clone, Copy)]
-enum Act {
+pub(crate) enum Act {
     SetFlag(u64),
     Move,
 }
 
-// The site behind an act, and whether that is durable. Before it so many sessions are shown.
-fn acted<R: Abort + AllocGlobal>(
+/// The site behind an act, and whether that is durable. Before it so many sessions are shown.
+pub(crate) fn acted<R: Abort + AllocGlobal>(
     rt: &R,
     site: ForgetfulSite,
     sessions: usize,
@@ -252,15 +287,7 @@ fn acted<R: Abort + AllocGlobal>(
 // Member 1 of 1, which one session asked. Of an act behind that a gate wasn't synced: two syncs make sure of the sides, one of
 // the record or the state, and the fourth fails.
 fn without_gate<R: Abort + AllocGlobal>(rt: &R, act: Act) -> ForgetfulSite {
-    let site = ForgetfulSite {
-        a: Pages::new(rt),
-        b: Pages::new(rt),
-        syncs: 0,
-        fails_at: 0,
-        power_until: u64::MAX,
-        failures: 0,
-    };
-    let site = match format(rt.alloc(), site, &MEMBER) {
+    let site = match format(rt.alloc(), ForgetfulSite::new(rt, 1_024), &MEMBER) {
         Ok(site) => site,
         Err(Back { site, fault }) => {
             drop(site);

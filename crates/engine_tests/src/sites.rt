@@ -2,7 +2,7 @@
 
 use cc_changes::Fraction;
 use cc_flush::{Back, format};
-use cc_node::Opening;
+use cc_node::{Node, Opening};
 use cc_site::{MemorySite, Side, Site, write_durably};
 use std::process::Abort;
 
@@ -27,6 +27,11 @@ pub const MEMBER: Opening<'static> = Opening {
     gamma: MOST,
     share: 1,
 };
+
+/// The node that begins so.
+pub fn node_of<R: Abort + AllocGlobal>(rt: &R, opening: &Opening<'_>) -> Node {
+    Node::fresh(rt.alloc(), opening).expect(rt, "a node")
+}
 
 /// Two empty sides, and room for so many outputs.
 pub fn empty<R: Abort + AllocGlobal>(rt: &R, room: usize) -> MemorySite {
@@ -59,14 +64,19 @@ pub fn laid<R: Abort + AllocGlobal>(rt: &R, parts: &[&[u8]]) -> Vec<u8> {
     side
 }
 
+/// A site whose sides have these bytes, which are sure. Four disk calls made it.
+pub fn two_sides<R: Abort + AllocGlobal>(rt: &R, a: &[u8], b: &[u8]) -> MemorySite {
+    let mut site = empty(rt, 8);
+    write_durably(&mut site, Side::A, 0, a).expect(rt, "side A is written");
+    write_durably(&mut site, Side::B, 0, b).expect(rt, "side B is written");
+    site
+}
+
 /// A site on whose sides these parts stand.
 pub fn with_laid<R: Abort + AllocGlobal>(rt: &R, a: &[&[u8]], b: &[&[u8]]) -> MemorySite {
     let a = laid(rt, a);
     let b = laid(rt, b);
-    let mut site = empty(rt, 8);
-    write_durably(&mut site, Side::B, 0, &b).expect(rt, "side B is written");
-    write_durably(&mut site, Side::A, 0, &a).expect(rt, "side A is written");
-    site
+    two_sides(rt, &a, &b)
 }
 
 /// What stands on a side of a site.
@@ -75,4 +85,14 @@ pub fn side_of<R: Abort + AllocGlobal, S: Site>(rt: &R, site: &mut S, side: Side
     let mut bytes = vec![in rt.alloc(); 0; length as usize].expect(rt, "room");
     site.read(side, 0, &mut bytes).expect(rt, "its bytes");
     bytes
+}
+
+/// Whether a side has just these bytes.
+pub fn has<R: Abort + AllocGlobal, S: Site>(
+    rt: &R,
+    site: &mut S,
+    side: Side,
+    wanted: &[u8],
+) -> bool {
+    side_of(rt, site, side).as_slice() == wanted
 }

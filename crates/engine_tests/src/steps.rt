@@ -102,8 +102,8 @@ pub fn state_of<R: Abort + AllocGlobal>(rt: &R, site: MemorySite) -> Vec<u8> {
     state
 }
 
-// What crashes make of touched places: they are as they are read, full of 00, of A5 and of FF, and cut away.
-const CRASHES: [Choice; 5] = [
+/// What crashes make of touched places: they are as they are read, full of 00, of A5 and of FF, and cut away.
+pub const CRASHES: [Choice; 5] = [
     Choice::Read,
     Choice::Fill(0),
     Choice::Fill(0xA5),

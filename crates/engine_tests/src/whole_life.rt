@@ -1,15 +1,13 @@
 //! A whole life of a node on its site, of which each disk call fails in turn: formatting, opening, four batches, with a
 //! lapse and a snapshot among their events, posts that are put again, and two checkpoints.
 
-use crate::parts::{Part, first_of};
+use crate::parts::{Part, first_of, settle};
 use crate::puts::{Kind, Put, are_put};
-use crate::sites::{MEMBER, empty};
+use crate::sites::{MEMBER, empty, node_of};
 use crate::steps::{Step, are_left, carry_out, state_of_node};
 use cc_checkpoint::OpenFault;
-use cc_flush::{Back, Flusher, FormatFault, format};
-use cc_messages::Event;
-use cc_node::Node;
-use cc_site::{Failing, MemorySite};
+use cc_flush::{Back, CheckpointFault, Failed, Flusher, FormatFault, format};
+use cc_site::{DeviceFault, Failing, MemorySite};
 use std::process::Abort;
 use std::test::*;
 
@@ -24,12 +22,12 @@ const STEPS: [(Step, usize); 7] = [
     (Step::Checkpoint, 0),
 ];
 
-// How far a life has come: how many events were released, how many were begun, and whether a disk call ended it.
+// How far a life has come: how many events were released, how many were begun, and the disk call that ended it.
 #[derive(Clone, Copy)]
 struct Lived {
     durable: usize,
     taken: usize,
-    is_ended: bool,
+    ended: Option<DeviceFault>,
 }
 
 // Lives on an engine. Where a disk call ends the life, each later step comes to the same.
@@ -38,7 +36,7 @@ fn live<R: Abort + AllocGlobal>(rt: &R, flusher: &mut Flusher<MemorySite>) -> Li
     for &(step, events) in &STEPS {
         let taken = durable.saturating_add(events);
         let came = carry_out(rt, flusher, step);
-        if came.is_err() {
+        if let Err(CheckpointFault::Failed(Failed { fault })) = came {
             for &later in &[Step::Turn(Part::Leave), Step::Resend, Step::Checkpoint] {
                 let told = carry_out(rt, flusher, later);
                 assert!(rt; told == came, "a later call tells something else");
@@ -46,7 +44,7 @@ fn live<R: Abort + AllocGlobal>(rt: &R, flusher: &mut Flusher<MemorySite>) -> Li
             return Lived {
                 durable,
                 taken,
-                is_ended: true,
+                ended: Some(fault),
             };
         }
         durable = taken;
@@ -54,18 +52,11 @@ fn live<R: Abort + AllocGlobal>(rt: &R, flusher: &mut Flusher<MemorySite>) -> Li
     Lived {
         durable,
         taken: durable,
-        is_ended: false,
+        ended: None,
     }
 }
 
-// A disk call ended the life before its first event.
-const ENDED_FIRST: Lived = Lived {
-    durable: 0,
-    taken: 0,
-    is_ended: true,
-};
-
-// Opens a site and lives on it.
+// Opens a site and lives on it, unless a disk call of the opening fails.
 fn open_and_live<R: Abort + AllocGlobal>(rt: &R, site: MemorySite) -> (MemorySite, Lived) {
     match Flusher::open(rt.alloc(), site) {
         Ok((mut flusher, core)) => {
@@ -74,26 +65,30 @@ fn open_and_live<R: Abort + AllocGlobal>(rt: &R, site: MemorySite) -> (MemorySit
             (flusher.close(), lived)
         }
         Err(Back { site, fault }) => {
-            assert!(rt;
-                matches!(fault, OpenFault::Device(_)),
-                "it isn't opened: {fault}"
-            );
-            (site, ENDED_FIRST)
+            let ended = match fault {
+                OpenFault::Device(fault) => Some(fault),
+                _ => None,
+            };
+            let lived = Lived {
+                durable: 0,
+                taken: 0,
+                ended,
+            };
+            (site, lived)
         }
     }
 }
 
-// Formats a site for member 1 of 1, unless a disk call of that fails.
-fn formatted<R: Abort + AllocGlobal>(rt: &R, site: MemorySite) -> Option<MemorySite> {
+// Formats a site for member 1 of 1. Else it gives the disk call that failed, if one did.
+fn formatted<R: AllocGlobal>(rt: &R, site: MemorySite) -> Result<MemorySite, Option<DeviceFault>> {
     match format(rt.alloc(), site, &MEMBER) {
-        Ok(site) => Some(site),
+        Ok(site) => Ok(site),
         Err(Back { site, fault }) => {
             drop(site);
-            assert!(rt;
-                matches!(fault, FormatFault::Device(_)),
-                "it isn't formatted: {fault}"
-            );
-            None
+            match fault {
+                FormatFault::Device(fault) => Err(Some(fault)),
+                _ => Err(None),
+            }
         }
     }
 }
@@ -108,18 +103,9 @@ const EVENTS: [Part; 6] = [
     Part::Snapshot,
 ];
 
-/// A node takes an event in, which it doesn't refuse.
-pub fn settle<R: Abort + AllocGlobal>(rt: &R, node: &mut Node, event: Event) {
-    let made = node
-        .core()
-        .made_or_refused(rt.alloc(), &event)
-        .expect(rt, "the event is taken");
-    node.settle(event, made);
-}
-
 // The states of the node before the first event and after each.
 fn plain_states<R: Abort + AllocGlobal>(rt: &R) -> Vec<Vec<u8>> {
-    let mut node = Node::fresh(rt.alloc(), &MEMBER).expect(rt, "a node");
+    let mut node = node_of(rt, &MEMBER);
     let mut states = Vec::new(rt.alloc());
     states.push(state_of_node(rt, &node)).expect(rt, "room");
     for &part in &EVENTS {
@@ -162,27 +148,60 @@ fn is_lawful<R: Abort + AllocGlobal>(
     }
 }
 
-// Whether a disk call of the life failed where that one was to fail.
-fn ends_at<R: Abort + AllocGlobal>(rt: &R, at: u64, failing: Failing, states: &[Vec<u8>]) -> bool {
+// The disk call that ended a life in which the one of that number was to fail.
+fn ended_at<R: Abort + AllocGlobal>(
+    rt: &R,
+    at: u64,
+    failing: Failing,
+    states: &[Vec<u8>],
+) -> Option<DeviceFault> {
     let mut site = empty(rt, 16);
     site.fuse(at, failing);
-    let Some(site) = formatted(rt, site) else {
-        return true;
+    let site = match formatted(rt, site) {
+        Ok(site) => site,
+        Err(fault) => return fault,
     };
     let (site, lived) = open_and_live(rt, site);
     let is_lawful = is_lawful(rt, &site, lived, states);
     drop(site);
     assert!(rt; is_lawful, "an output or a crash is not of this life");
-    lived.is_ended
+    lived.ended
 }
 
-// 16 calls format the site, 14 open it; each batch has 4 and each checkpoint 13. That makes 72.
+// The 72 disk calls of the life, in turn: 16 format the site, 14 open it, each batch has 4, and each checkpoint has 13. The
+// last word stands for a life in which none fails.
+const CALLS: &str = "\
+A Length, B Length, B Length, B Cut, B Sync, B Write, B Sync, A Length, A Cut, A Sync, A Write, A Sync, \
+A Write, A Sync, A Write, A Sync, \
+A Sync, B Sync, A Length, A Read, A Read, B Length, B Read, A Length, A Read, A Read, A Read, A Length, A Read, \
+A Length, \
+A Write, A Sync, A Write, A Sync, \
+A Write, A Sync, A Write, A Sync, \
+B Length, B Read, B Cut, B Write, B Write, B Write, B Sync, B Write, B Sync, A Write, A Sync, A Cut, A Sync, \
+B Write, B Sync, B Write, B Sync, \
+B Write, B Sync, B Write, B Sync, \
+A Length, A Read, A Cut, A Write, A Write, A Write, A Sync, A Write, A Sync, B Write, B Sync, B Cut, B Sync, \
+none";
+
+// Puts the name of a disk call that ended a life behind those of others.
+fn put_name<R: Abort + AllocGlobal>(rt: &R, names: &mut String, ended: Option<DeviceFault>) {
+    let name = match ended {
+        Some(fault) => format!(in rt.alloc(); "{fault}, "),
+        None => format!(in rt.alloc(); "none"),
+    };
+    let name = name.expect(rt, "a name");
+    names.push_str(&name).expect(rt, "room");
+}
+
+// Each of them fails once, and for good.
 #[test]
 fn each_call_of_a_whole_life_may_fail(rt: HostRuntime) {
     let states = plain_states(&rt);
     for &failing in &[Failing::Once, Failing::Stop] {
+        let mut names = String::new(rt.alloc());
         for at in 0..73 {
-            assert!(rt; ends_at(&rt, at, failing, &states) == (at < 72));
+            put_name(&rt, &mut names, ended_at(&rt, at, failing, &states));
         }
+        assert!(rt; names.as_str() == CALLS);
     }
 }

@@ -7,12 +7,12 @@ ghost use Rattle.cc_intake.specs.Accepting.{share_limit};
 use crate::sites::{MEMBER, begun};
 use crate::threads::holding::{Hold, Holding};
 use crate::threads::turns::fill;
-use crate::threads::workers::labour_whole;
+use crate::threads::workers::{Brings, labour_whole};
 use cc_flush::{Back, Flusher};
 use cc_intake::{
     Ends, Finished, Hooked, Intake, Lane, Life, Queue, Share, Turner, finish, lane, start,
 };
-use cc_node::Core;
+use cc_node::{Core, Opening};
 use cc_site::MemorySite;
 use std::marker::Brand;
 use std::process::Abort;
@@ -29,7 +29,7 @@ pub(crate) enum Story {
     /// The queue is filled, and emptied by turns.
     Full,
     /// So many workers bring so many events each.
-    Workers(u32, u64),
+    Workers(Brings, u32, u64),
 }
 
 fn opened<'a, R: Abort + AllocGlobal>(
@@ -45,7 +45,8 @@ fn opened<'a, R: Abort + AllocGlobal>(
     }
 }
 
-/// Member 1 of 1 lives such a life: so many events were accepted, told, flushed and not flushed.
+/// Member 1 of 1, up to 32 of whose asks begin together, lives such a life: so many events were accepted, told, flushed and
+/// not flushed.
 pub(crate) fn live<R: Abort + AllocGlobal + Threads + Wait + Sync>(
     rt: &R,
     holding: Holding,
@@ -53,7 +54,11 @@ pub(crate) fn live<R: Abort + AllocGlobal + Threads + Wait + Sync>(
     expected: [u64; 4],
 ) -> MemorySite {
     let hooks = Hold::new(holding);
-    let (engine, core) = opened(rt, begun(rt, 2048, &MEMBER), &hooks);
+    let opening = Opening {
+        share: 32,
+        ..MEMBER
+    };
+    let (engine, core) = opened(rt, begun(rt, 2048, &opening), &hooks);
     let finished = live_as::<Brand, R>(rt, engine, core, Blank::new(1 << 20), &hooks, story);
     let counts = [
         finished.accepted,
@@ -138,7 +143,7 @@ where
             fill(rt, rt.alloc(), hooks, lock, turner, queue, &mut share);
             shares.push(share).expect(rt, "room");
         }
-        Story::Workers(count, last) => {
+        Story::Workers(brings, count, last) => {
             labour_whole(
                 rt,
                 rt.alloc(),
@@ -147,6 +152,7 @@ where
                 turner,
                 queue,
                 shares,
+                brings,
                 count,
                 last,
             );

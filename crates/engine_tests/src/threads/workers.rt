@@ -1,11 +1,12 @@
 //! Workers that bring events side by side, while one thread takes turns.
 
-use crate::parts::id;
-use crate::steps::engine;
+use crate::parts::{Part, id};
+use crate::puts::{Put, put_of};
+use crate::steps::{Step, carry_out, engine};
 use crate::threads::holding::{Hold, Holding, TURNS};
 use crate::threads::lives::{Disk, Story, live};
 use cc_intake::{Accepted, Intake, Lane, Life, Queue, Refused, Share, Source, Turner, work};
-use cc_messages::{Event, Message, Output, Refusal};
+use cc_messages::{Command, Event, Message, Output, Refusal};
 use cc_node::Core;
 use cc_site::Choice;
 use cc_views::NodeId;
@@ -23,16 +24,31 @@ const EVENTS: u64 = 40;
 // How many turns that take nothing follow each other at most.
 const MOST_IDLE: u64 = 10_000_000;
 
-// Brings what it heard from one node, as messages 1 to `last`, each again where the queue was full, and none once the engine
-// has ended or the queue was full for too long.
+/// What a worker brings: what it heard from one node, or asks of sessions, each of which asks the same twice.
+#[derive(Clone, Copy)]
+pub(crate) enum Brings {
+    Messages,
+    Asks,
+}
+
+// Brings events 1 to `last`, each again where the queue was full, and none once the engine has ended or the queue was full
+// for too long.
 #[derive(Drop)]
 struct Peer<'a> {
     hooks: &'a Hold,
+    brings: Brings,
     node: NodeId,
     next: u64,
     last: u64,
     full: u64,
+    repeats: u64,
     refused: u64,
+}
+
+// The session whose ask event `number` of a worker is, for the first time or again.
+fn session_of(node: u64, number: u64) -> u64 {
+    let place = number.saturating_sub(1) / 2;
+    node.wrapping_mul(100).wrapping_add(place)
 }
 
 impl Source for Peer<'_> {
@@ -45,22 +61,33 @@ impl Source for Peer<'_> {
         if done || self.hooks.ended.load(Ordering::SeqCst) == 1 {
             return None;
         }
-        Some(Event::Deliver {
-            from: self.node,
-            number: self.next,
-            message: Message::JoinEcho { node: self.node },
-        })
+        let event = match self.brings {
+            Brings::Messages => Event::Deliver {
+                from: self.node,
+                number: self.next,
+                message: Message::JoinEcho { node: self.node },
+            },
+            Brings::Asks => Event::Ask {
+                session: session_of(u64::from(self.node.number()), self.next),
+                request: 1,
+                command: Command::SetFlag,
+            },
+        };
+        Some(event)
     }
 
     fn told(&mut self, event: Event, answer: Result<Accepted, Refused>) {
         drop(event);
         if let Err(refused) = answer {
-            if refused.why == Refusal::QueueFull {
-                self.full = self.full.saturating_add(1);
-                thread::yield_now();
-                return;
+            match refused.why {
+                Refusal::QueueFull => {
+                    self.full = self.full.saturating_add(1);
+                    thread::yield_now();
+                    return;
+                }
+                Refusal::Repeat => self.repeats = self.repeats.saturating_add(1),
+                _ => self.refused = self.refused.saturating_add(1),
             }
-            self.refused = self.refused.saturating_add(1);
         }
         self.next = self.next.saturating_add(1);
         self.full = 0;
@@ -157,7 +184,8 @@ fn labour_with_turns<'a, L: Life + Send + Sync, Q: Lane + Send + Sync, R: Thread
     workers
 }
 
-/// So many workers, each of a node of its own, bring so many events each, while one thread takes turns. Each event is accepted.
+/// So many workers, each of a node or of sessions of its own, bring so many events each, while one thread takes turns. Each
+/// event is accepted, or a repeat of one.
 pub(crate) fn labour_whole<L: Life + Send + Sync, Q: Lane + Send + Sync, R>(
     rt: &R,
     alloc: Global,
@@ -166,6 +194,7 @@ pub(crate) fn labour_whole<L: Life + Send + Sync, Q: Lane + Send + Sync, R>(
     turner: &mut Turner<Disk<'_>, L, Q>,
     queue: &Queue<L, Q>,
     shares: &mut Vec<Share<L>>,
+    brings: Brings,
     count: u32,
     last: u64,
 )
@@ -176,10 +205,12 @@ where
     for i in 0..count {
         let peer = Peer {
             hooks,
+            brings,
             node: id(i.wrapping_add(2)),
             next: 1,
             last,
             full: 0,
+            repeats: 0,
             refused: 0,
         };
         let share = lock.lock(rt).share();
@@ -189,7 +220,7 @@ where
     let laboured = labour_with_turns(rt, alloc, hooks, lock, turner, queue, workers);
     for worker in laboured.expect(rt, "room") {
         let Worker { share, peer } = worker;
-        let is_whole = share.count() == last && peer.refused == 0;
+        let is_whole = share.count().wrapping_add(peer.repeats) == last && peer.refused == 0;
         drop(peer);
         shares.push(share).expect(rt, "room");
         assert!(rt; is_whole, "each event of a worker is accepted");
@@ -200,7 +231,7 @@ where
 
 #[test]
 fn accepts_are_answered_while_a_sync_is_held(rt: HostRuntime) {
-    let story = Story::Workers(2, 1);
+    let story = Story::Workers(Brings::Messages, 2, 1);
     let site = live(&rt, Holding::FirstSync, story, [2, 2, 2, 0]);
     assert!(rt; site.outputs().len() == 2, "both events are acknowledged");
     drop(site);
@@ -238,7 +269,7 @@ fn heard_all(core: &Core, outputs: &[Output], count: u32) -> bool {
 #[test]
 fn many_workers_have_one_history(rt: HostRuntime) {
     for &(count, all) in &[(2, 80), (4, 160), (8, 320)] {
-        let story = Story::Workers(count, EVENTS);
+        let story = Story::Workers(Brings::Messages, count, EVENTS);
         let site = live(&rt, Holding::EachSync, story, [all, all, all, 0]);
         let image = site
             .image(rt.alloc(), &Choice::Read)
@@ -254,4 +285,50 @@ fn many_workers_have_one_history(rt: HostRuntime) {
             "the disk and the outlet have all events once"
         );
     }
+}
+
+// How many replies to the first request of a session there are.
+fn replies_to(outputs: &[Output], session: u64) -> u64 {
+    let mut count: u64 = 0;
+    for output in outputs {
+        if put_of(output) == Put::Reply(session, 1, true) {
+            count = count.saturating_add(1);
+        }
+    }
+    count
+}
+
+// Whether each of 11 sessions of each of three workers is replied to once.
+fn are_answered_once(outputs: &[Output]) -> bool {
+    for node in 2..5 {
+        for number in 0..11 {
+            if replies_to(outputs, session_of(node, 2 * number + 1)) != 1 {
+                return false;
+            }
+        }
+    }
+    true
+}
+
+// One ask is pending then, and 32 wait, which begin together once the two posts of the first have come back.
+#[test]
+fn asks_of_many_workers_are_accepted_and_answered_once(rt: HostRuntime) {
+    let story = Story::Workers(Brings::Asks, 3, 22);
+    let site = live(&rt, Holding::EachSync, story, [33, 33, 33, 0]);
+    let image = site
+        .image(rt.alloc(), &Choice::Read)
+        .expect(&rt, "an image");
+    drop(site);
+    let mut flusher = engine(&rt, image);
+    for number in 1..5 {
+        let came = carry_out(&rt, &mut flusher, Step::Turn(Part::Own(number)));
+        assert!(rt; came == Ok(0));
+    }
+    let is_once = are_answered_once(flusher.site().outputs());
+    let posts = flusher.twin().core().posts();
+    drop(flusher.close());
+    assert!(rt;
+        is_once && posts == 4,
+        "all asks are answered in two rounds"
+    );
 }

@@ -2,7 +2,7 @@
 
 use crate::sets::id;
 use cc_messages::{Answer, Message, PostRange};
-use cc_protocol::{Bundle, Due, Parcel, due_bytes, reply_bytes, skip_bytes};
+use cc_protocol::{Bundle, Due, Parcel, due_bytes, message_bytes, reply_bytes, skip_bytes};
 use cc_views::NodeId;
 use std::process::Abort;
 
@@ -24,13 +24,16 @@ const STORED: [u8; 22] = [
     0, 0, 0, 0x12, 4, 0, 0, 0, 0, 0, 0, 0, 7, 0, 0, 0, 0, 0, 0, 0, 1, 1,
 ];
 
-// Whether what is due of a message under number 2 is spelled so: first the one and then the other.
+// Whether what is due of a message under number 2 is spelled so, also where its bytes are at hand: first the one and then the
+// other.
 fn is_posted<R: Abort + AllocGlobal>(rt: &R, due: &Due, first: &[u8], then: &[u8]) -> bool {
     let me = id(1);
     let message = Message::StoreAck { tag: 1, node: me };
-    let posted = due_bytes(rt.alloc(), me, due, 2, &message).expect(rt, "bytes");
+    let bytes = message_bytes(rt.alloc(), &message).expect(rt, "bytes");
+    let posted = due_bytes(rt.alloc(), me, due, 2, &message, Some(&bytes)).expect(rt, "bytes");
+    let spelled = due_bytes(rt.alloc(), me, due, 2, &message, None).expect(rt, "bytes");
     drop(message);
-    posted.as_slice().strip_prefix(first) == Some(then)
+    posted == spelled && posted.as_slice().strip_prefix(first) == Some(then)
 }
 
 // The numbers that are skipped come first.

@@ -4,4 +4,4 @@ use Rattle.cc_frames.proofs.frame.put_post_body.Goals as goal
 
 pub returns-clause-writes : goal.returns-clause-writes
 returns-clause-writes c =
-    writes_then c.args.out.now c.put_u8.new.out c.put_delivery.new.out (1 ∷ []) _ c.put_delivery.result c.in_ok-put_u8.ensures c.put_delivery.ensures.writes
+    writes_then c.args.out.now c.put_u8.new.out c.put_spelled_delivery.new.out (1 ∷ []) _ c.put_spelled_delivery.result c.in_ok-put_u8.ensures c.put_spelled_delivery.ensures.writes

@@ -6,8 +6,8 @@ use Rattle.cc_journal.proofs.LinkSends.{row_sends, rows_send, AllStart, all_star
 use Rattle.cc_journal.proofs.Puts.{put_none, put_more, put_all}
 use Rattle.cc_journal.proofs.outlet.put_on_links.Goals as goal
 
-pub put_on_link-requires : goal.put_on_link-requires
-put_on_link-requires g c =
+pub put_on_link-requires-clause-started : goal.put_on_link-requires-clause-started
+put_on_link-requires-clause-started g c =
     (subst (AllStart c.args.core.now.posts) (next _ c.loop-row.row-index _ c.loop-row-test.true c.row-item.is) c.loop-row.invariant.start).0
 
 pub loop-row-init : goal.loop-row-init

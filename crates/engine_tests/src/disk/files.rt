@@ -103,7 +103,11 @@ fn a_file_that_moves_too_little_is_asked_again(rt: HostRuntime) {
 struct Told<'a>(&'a Cell<Option<(Side, ErrorKind)>>);
 
 impl Outlet for Told<'_> {
-    fn send(&mut self, _to: NodeId, _number: u64, _message: &Message) {}
+    fn spell(&self, _message: &Message) -> Option<Vec<u8>> {
+        None
+    }
+
+    fn send(&mut self, _to: NodeId, _number: u64, _message: &Message, _spelled: Option<&[u8]>) {}
 
     fn ack(&mut self, _to: NodeId, _number: u64) {}
 

@@ -1,6 +1,6 @@
 //! Which side is in use.
 
-use crate::memory_sites::two_sides;
+use crate::sites::two_sides;
 use cc_checkpoint::{InUse, OpenFault, Peeked, choose, peek};
 use cc_site::Side;
 

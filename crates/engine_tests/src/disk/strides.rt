@@ -1,7 +1,8 @@
 //! Zeros ahead: a file grows by strides.
 
-use crate::files::{made, remove, site};
-use crate::records::{comes_to, entrant, takes};
+use crate::disk::files::{made, remove, site};
+use crate::disk::records::{comes_to, takes};
+use crate::sites::{ENTRANT, node_of};
 use cc_files::{FileSite, NoOutlet};
 use cc_journal::Journal;
 use cc_messages::Event;
@@ -13,7 +14,7 @@ use std::process::Abort;
 fn grow<R: Abort + AllocGlobal>(rt: &R, site: &mut FileSite<NoOutlet>) {
     site.write_at(Side::A, 0, &[0]).expect(rt, "a gate");
     let mut journal = Journal::new(rt.alloc(), Side::A, 0).expect(rt, "a journal");
-    let mut node = entrant(rt);
+    let mut node = node_of(rt, &ENTRANT);
     assert!(rt; takes(rt, &mut journal, site, &mut node, Event::Enter));
     assert!(rt; site.length(Side::A) == Ok(262_144));
     assert!(rt; takes(rt, &mut journal, site, &mut node, Event::Leave));

@@ -1,35 +1,9 @@
 //! A site in memory, and what a crash leaves of it.
 
 use crate::refusals::unless_failed;
-use cc_site::{Choice, MemorySite, Side, Site, write_durably};
-use cc_views::NodeId;
+use crate::sites::{has, two_sides};
+use cc_site::{Choice, Side, Site};
 use std::process::Abort;
-
-/// A site whose sides have these bytes, which are sure. Four disk calls made it.
-pub(crate) fn two_sides<R: Abort + AllocGlobal>(rt: &R, a: &[u8], b: &[u8]) -> MemorySite {
-    let mut site = MemorySite::new(rt.alloc(), 0).expect(rt, "a site");
-    write_durably(&mut site, Side::A, 0, a).expect(rt, "a write");
-    write_durably(&mut site, Side::B, 0, b).expect(rt, "a write");
-    site
-}
-
-/// Whether a side has just these bytes.
-pub(crate) fn has<R: Abort + AllocGlobal, S: Site>(
-    rt: &R,
-    site: &mut S,
-    side: Side,
-    wanted: &[u8],
-) -> bool {
-    let length = site.length(side).expect(rt, "a length");
-    let mut bytes = vec![in rt.alloc(); 0u8; length as usize].expect(rt, "room");
-    site.read(side, 0, &mut bytes).expect(rt, "a read");
-    bytes.as_slice() == wanted
-}
-
-/// The id of this number, which is at least 1.
-pub(crate) fn id(number: u32) -> NodeId {
-    NodeId::new(number.max(1)).unwrap()
-}
 
 // Writes behind what is there, or over it.
 fn put<R: Abort, S: Site>(rt: &R, site: &mut S, side: Side, place: u64, bytes: &[u8]) {

@@ -1,7 +1,7 @@
 //! The steps of a checkpoint.
 
-use crate::memory_sites::{has, two_sides};
-use crate::states::{MEMBER, opened};
+use crate::sites::{MEMBER, has, node_of, two_sides};
+use crate::versions::MEMBER_STATE;
 use cc_checkpoint::{Piece, arm, fill, retire};
 use cc_node::Node;
 use cc_site::{Failing, MemorySite, Side, Site};
@@ -37,7 +37,7 @@ const HEAD: [u8; 14] = [0xA5, 0, 0, 0, 0, 0, 0, 0, 2, 2, 0, 0, 0, 0x77];
 // whole checkpoint leaves one closed byte of side A, and the head, the state and a closed gate on side B.
 #[test]
 fn a_checkpoint_moves_to_the_other_side_where_no_call_fails(rt: HostRuntime) {
-    let member = opened(&rt, 1, &[1], &[], 1);
+    let member = node_of(&rt, &MEMBER);
     let mut piece = Piece::new(rt.alloc()).expect(&rt, "a piece");
     for call in 4..27 {
         let mut site = two_sides(&rt, &[0], &[0]);
@@ -51,7 +51,7 @@ fn a_checkpoint_moves_to_the_other_side_where_no_call_fails(rt: HostRuntime) {
     drop((member, piece));
     let mut wanted = [0; 134];
     wanted[..14].copy_from_slice(&HEAD);
-    wanted[14..133].copy_from_slice(&MEMBER);
+    wanted[14..133].copy_from_slice(&MEMBER_STATE);
     assert!(rt; has(&rt, &mut site, Side::A, &[0]));
     assert!(rt; has(&rt, &mut site, Side::B, &wanted));
     drop(site);

@@ -2,12 +2,12 @@
 
 ghost use Rattle.std.specs.Prelude.{◌≤◌, length};
 
-use crate::memory_sites::{id, two_sides};
-use crate::states::{deliver, opened, take};
-use crate::windows::read;
+use crate::disk::windows::read;
+use crate::parts::{deliver, id, settle};
+use crate::sites::{ENTRANT, MEMBER, node_of, two_sides};
 use cc_checkpoint::encode_image;
 use cc_messages::{Command, Event, Message, Refusal};
-use cc_node::Node;
+use cc_node::{Node, Opening};
 use cc_views::Text;
 use std::process::Abort;
 
@@ -21,7 +21,7 @@ const FORMATTED: [u8; 136] = [
 ];
 
 // Entrant 4 with contact 1, of share 2, as it is formatted.
-const ENTRANT: [u8; 156] = [
+const FORMATTED_ENTRANT: [u8; 156] = [
     0xa5, 0, 0, 0, 0, 0, 0, 0, 1, 0x20, 0, 0, 0, 0x8d, 0, 0, 0, 4, 0, 0, 0, 4, 0, 0, 0, 5, 0, 0, 0,
     4, 0, 0, 0, 5, 0, 0, 0, 0, 0, 0, 0, 0, 0, 0, 0, 0, 0, 0, 0, 0, 0, 0, 0, 0, 0, 0, 0, 0, 0, 0, 0,
     0, 0, 0, 0, 0, 0, 0, 0, 0, 0, 0, 0, 0, 0, 0, 0, 0, 0, 0, 2, 0, 0, 0, 0, 0, 0, 0, 0, 0, 0, 0, 2,
@@ -86,7 +86,7 @@ const NEAR_THE_LIMIT: [u8; 322] = [
 // Sides, each with its generation.
 const ALL: [(u64, &[u8]); 5] = [
     (1, &FORMATTED),
-    (1, &ENTRANT),
+    (1, &FORMATTED_ENTRANT),
     (2, &STORING),
     (3, &STORING_BACK),
     (1, &NEAR_THE_LIMIT),
@@ -118,7 +118,7 @@ fn ask<R: Abort + AllocGlobal>(rt: &R, node: &mut Node, session: u64, command: C
         request: 1,
         command,
     };
-    take(rt, node, asked);
+    settle(rt, node, asked);
 }
 
 fn store(text: &[u8]) -> Command
@@ -131,10 +131,18 @@ fn store(text: &[u8]) -> Command
 // and the collect's query and its reply.
 #[test]
 fn a_round_is_written_with_all_its_asks_and_answers(rt: HostRuntime) {
-    let entrant = opened(&rt, 4, &[], &[1], 2);
-    assert!(rt; is_on_side(&rt, &entrant, 1, &ENTRANT));
+    let opening = Opening {
+        share: 2,
+        ..ENTRANT
+    };
+    let entrant = node_of(&rt, &opening);
+    assert!(rt; is_on_side(&rt, &entrant, 1, &FORMATTED_ENTRANT));
     drop(entrant);
-    let mut node = opened(&rt, 1, &[1], &[], 32);
+    let opening = Opening {
+        share: 32,
+        ..MEMBER
+    };
+    let mut node = node_of(&rt, &opening);
     assert!(rt; is_on_side(&rt, &node, 1, &FORMATTED));
     ask(&rt, &mut node, 7, store(b"a"));
     ask(&rt, &mut node, 8, store(b"b"));

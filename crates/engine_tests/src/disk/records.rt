@@ -2,21 +2,13 @@
 
 ghost use Rattle.cc_journal.specs.Batches.{AreLawful};
 
-use crate::memory_sites::{has, two_sides};
-use crate::states::opened;
+use crate::openings::ENTERED;
+use crate::sites::{ENTRANT, has, node_of, two_sides};
 use cc_journal::{Batch, Entry, Journal, ScanFault, scan};
 use cc_messages::Event;
 use cc_node::Node;
 use cc_site::{Call, DeviceFault, Failing, Side, Site};
 use std::process::Abort;
-
-// The record of one Enter behind its open gate, and the next gate.
-const ENTERED: [u8; 12] = [0xA5, 0, 0, 0, 6, 1, 0, 0, 0, 1, 1, 0];
-
-/// A node that hasn't entered.
-pub(crate) fn entrant<R: Abort + AllocGlobal>(rt: &R) -> Node {
-    opened(rt, 4, &[], &[1], 1)
-}
 
 // Writes a batch, opens its gate, and puts what its events make of the node. Whether it landed.
 fn lands<S: Site>(journal: &mut Journal, site: &mut S, node: &mut Node, batch: &mut Batch) -> bool
@@ -65,7 +57,7 @@ pub(crate) fn comes_to<R: Abort + AllocGlobal, S: Site>(
     site: &mut S,
     wanted: Result<Found, ScanFault>,
 ) -> bool {
-    let node = entrant(rt);
+    let node = node_of(rt, &ENTRANT);
     match scan(rt.alloc(), site, Side::A, 0, node) {
         Ok(scanned) => {
             let counts = (scanned.journal.place(), scanned.records, scanned.events);
@@ -83,7 +75,7 @@ pub(crate) fn comes_to<R: Abort + AllocGlobal, S: Site>(
 fn a_record_stands_behind_its_open_gate(rt: HostRuntime) {
     let mut site = two_sides(&rt, &[0], &[]);
     let mut journal = Journal::new(rt.alloc(), Side::A, 0).expect(&rt, "a journal");
-    let mut node = entrant(&rt);
+    let mut node = node_of(&rt, &ENTRANT);
     assert!(rt; takes(&rt, &mut journal, &mut site, &mut node, Event::Enter));
     assert!(rt; journal.place() == 11);
     assert!(rt; has(&rt, &mut site, Side::A, &ENTERED));
