@@ -15,9 +15,9 @@ use std::alloc::Global;
 use std::hash::RandomState;
 use std::net::{Net, Shutdown, TcpListener, TcpStream};
 use std::sync::Wait;
-use std::thread;
 use std::thread::{Scope, Threads};
 use std::time::{Clock, Duration};
+use std::{io, thread};
 
 // How many connections are served at once at most.
 const MOST_CONNECTIONS: u64 = 256;
@@ -90,14 +90,22 @@ where
 {
     match TcpListener::bind(rt, address) {
         Ok(listener) => {
-            info!(rt; "clients that speak HTTP are served at {}", address);
+            note_served(rt, address);
             Some(listener)
         }
         Err(why) => {
-            error!(rt; "can't listen at {}: {}", address, why);
+            note_refused(rt, address, &why);
             None
         }
     }
+}
+
+fn note_served<R: Log>(rt: &R, address: Address) {
+    info!(rt; "clients that speak HTTP are served at {}", address);
+}
+
+fn note_refused<R: Log>(rt: &R, address: Address, why: &io::Error) {
+    error!(rt; "can't listen at {}: {}", address, why);
 }
 
 /// Sets the flag, and wakes the acceptor, which looks at it.

@@ -31,6 +31,7 @@ use cc_workers::Context;
 use log::{Log, error, info};
 use std::alloc::Global;
 use std::fs::{File, Files};
+use std::io;
 use std::marker::Brand;
 use std::net::{Net, TcpListener, TcpStream};
 use std::sync::ledger::Blank;
@@ -138,14 +139,25 @@ where
     F: Files<File = File>,
 {
     let outlet = ServerOutlet::new(run.rt, run.alloc, run.shared, run.config.speech.is_before());
-    let site = match FileSite::open(files, run.alloc, run.config.dir, outlet) {
-        Ok(site) => site,
+    match FileSite::open(files, run.alloc, run.config.dir, outlet) {
+        Ok(site) => run_on_site(run, site, listener, inlets),
         Err(fault) => {
-            drop(listener);
-            drop(inlets);
-            return Err(fault.into());
+            drop((listener, inlets));
+            Err(fault.into())
         }
-    };
+    }
+}
+
+// Opens the node that stands on a site, and runs it.
+fn run_on_site<R, H: Hooks + Sync, S: Site + Drop>(
+    run: &Run<'_, R, H>,
+    site: S,
+    listener: Option<TcpListener>,
+    inlets: Inlets,
+) -> Result<Finished<()>, RunFault>
+where
+    R: Machine,
+{
     let measured = Measured::new(run.rt, run.hooks, &run.shared.gauges);
     let hooked = Hooked {
         site,
@@ -154,9 +166,7 @@ where
     match open_anew(run.alloc, hooked) {
         Ok((engine, core)) => run_opened(run, listener, inlets, engine, core),
         Err(Back { site, fault }) => {
-            drop(site);
-            drop(listener);
-            drop(inlets);
+            drop((site, listener, inlets));
             Err(RunFault::Open(fault))
         }
     }
@@ -322,10 +332,14 @@ where
     match TcpListener::bind(rt, address) {
         Ok(listener) => Ok(listener),
         Err(why) => {
-            error!(rt; "can't listen at {}: {}", address, why);
+            note_refused(rt, address, &why);
             Err(RunFault::Listen)
         }
     }
+}
+
+fn note_refused<R: Log>(rt: &R, address: Address, why: &io::Error) {
+    error!(rt; "can't listen at {}: {}", address, why);
 }
 
 fn note<R: Log, H>(run: &Run<'_, R, H>, me: NodeId, what: &str, address: Address) {

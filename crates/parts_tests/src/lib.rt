@@ -1,5 +1,5 @@
-//! Tests of the bytes of messages and frames, of the parts of a node, of what a server and a client of it decide, and of requests
-//! over HTTP, by the public calls alone.
+//! Tests of the bytes of messages and frames, of the parts of a node, of what a server and a client of it decide, of requests
+//! over HTTP, and of the words, folders and faults of programs, by the public calls alone.
 #![tactic(auto)]
 
 #[cfg(test)]
@@ -20,6 +20,8 @@ mod links;
 mod objects;
 #[cfg(test)]
 mod openings;
+#[cfg(test)]
+mod program;
 #[cfg(test)]
 mod protocol;
 #[cfg(test)]

@@ -1,6 +1,6 @@
 //! Folders that are made anew, formatted and told of, and what stands in them.
 
-use crate::words::{format_of, with};
+use crate::program::words::{format_of, with};
 use cc_commands::{DumpScope, FormatOrder, dump_folder, format_folder};
 use cc_files::{FileSite, NoOutlet};
 use cc_orders::{FormatWords, WordFault};

@@ -1,6 +1,6 @@
 //! What is told of words that are no command, of beginnings that no node has, and of those that an operator may not want.
 
-use crate::words::{format_of, with};
+use crate::program::words::{format_of, with};
 use cc_commands::{BadOpening, FormatOrder, Warning};
 use cc_node::OpeningRule;
 use cc_orders::{AnswerForm, AskOrder, AskWords, CommandFault, FormatWords, WordFault};

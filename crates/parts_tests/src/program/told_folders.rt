@@ -1,7 +1,7 @@
 //! What is told of a folder beside what is printed: of its node, why it can't be opened, and of files that were lost.
 
-use crate::folders::{check_format, dumped, made, member, remove};
-use crate::words::with;
+use crate::program::folders::{check_format, dumped, made, member, remove};
+use crate::program::words::with;
 use cc_commands::{DumpScope, Lost, Trouble, Wrong, node_in_folder};
 use cc_files::{FileSite, NoOutlet};
 use cc_orders::WordFault;
