@@ -3,7 +3,7 @@
     cluster load kill-cluster soak soak-absent hostile closed-streams dead-member refused-flood stray-frames many-sessions \
     stale-collects costs worked-rows trusted links beside look look-picture hostile-status mistakes deb test-systemd \
     tls-cluster clients page-bytes one-session half-close idle-cluster power-cut slow-readers full-pipe operator-places many-nodes \
-    upgrade chain first-store snapshots partial-writes wrong-places mutated-hellos http-clients turns hops
+    upgrade chain gone-words first-store snapshots partial-writes wrong-places mutated-hellos http-clients turns hops
 
 # Plays the script that ships with the program before any proof.
 try:
@@ -65,12 +65,16 @@ tls-cluster:
 	@bash packaging/tls/cluster.sh $(PROGRAM)
 
 # Proves every crate from nothing, tries the edits that must fail, and runs the tests and the programs.
-test: chain
+test: chain gone-words
 	rt ci
 
 # Looks whether the longest chain of crates that stand on each other has grown, for which the program waits: a second.
 chain:
 	@python3 tools/chain.py
+
+# Looks whether a name that got a better one still stands in code, definitions, proofs, edits or pages: a second.
+gone-words:
+	@python3 tools/gone_words.py
 
 # Proves one crate and what it stands on, over what was checked before: make check CRATE=cc_wire
 check:

@@ -11,22 +11,22 @@ here = os.path.dirname(os.path.abspath(__file__))
 crates = os.path.join(here, "..", "..", "crates")
 
 TYPES = """cc_views/value cc_views/row cc_changes/fraction cc_messages/command cc_messages/message cc_messages/event
-    cc_messages/answer cc_messages/output cc_messages/refusal cc_wire/fault cc_ops/pending cc_ops/stage
-    cc_outbox/kept_answer cc_site/site cc_node/made cc_node/opening cc_sides/layout"""
+    cc_messages/answer cc_messages/output cc_messages/refusal cc_wire/fault cc_ops/pending_operation cc_ops/stage
+    cc_outbox/kept_answer cc_site/site cc_node/made cc_node/opening cc_states/layout"""
 
 SPECS = """cc_views: NatSets Rows Merge Limits Tables
     cc_changes: ChangeSets ChangeLaws Need
     cc_objects: Objects
     cc_messages: Limits Messages Ranges Refusals Shares
-    cc_wire: Reading Spelling Messages Answers Commands Events
+    cc_wire: Readers Spellings Messages Answers Commands Events
     cc_links: Links
     cc_sessions: Sessions
     cc_outbox: Outbox OutboxLaws Rows
     cc_churn: Churn Refusals
-    cc_ops: Commands Waiting Rounds Ops Stages Refusals
+    cc_ops: Commands WaitingAsks Rounds Ops Stages Refusals
     cc_site: Sides Moments
-    cc_node: Core Refusals Node OneAtATime Rounds Opening Writes Lawful
-    cc_sides: Layouts States Sides Good
+    cc_node: Core Refusals Node OneAtATime Rounds Openings Writes Lawful
+    cc_states: Layouts States Sides Good
     cc_laws: Shown Orders Written Histories Lives Clusters Runs"""
 
 

@@ -1,9 +1,8 @@
 use cc_checkpoint::OpenFault;
-use cc_files::SiteFault;
 use cc_flush::{CheckpointFault, Failed, FormatFault};
 use cc_journal::Entry;
 use cc_messages::Refusal;
-use cc_site::DeviceFault;
+use cc_site::{DeviceFault, SiteFault};
 use cc_views::NoMemory;
 use std::alloc::{AllocError, AllocFailed};
 use std::io;

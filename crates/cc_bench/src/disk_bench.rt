@@ -1,8 +1,7 @@
 //! The folder of real files that the engine is timed on, and how fast its disk syncs.
 
 use crate::bench_fault::BenchFault;
-use cc_files::{FileSite, NoOutlet};
-use cc_site::{Side, write_durably};
+use cc_site::{FileSite, NoOutlet, Side, write_durably};
 use std::fs;
 use std::fs::{File, Files};
 use std::io::Write;

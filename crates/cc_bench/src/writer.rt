@@ -4,12 +4,11 @@ ghost use Rattle.std.specs.Prelude.{◌≡◌, ◌≤◌, false, length, IfOk, O
 ghost use Rattle.cc_journal.specs.Batches.{AreLawful};
 
 use crate::bench_fault::BenchFault;
-use cc_files::{FileSite, NoOutlet};
 use cc_flush::{Back, Flusher};
 use cc_journal::{Batch, Entry};
 use cc_messages::{Command, Event};
 use cc_node::{Core, Node};
-use cc_site::Site;
+use cc_site::{FileSite, NoOutlet, Site};
 use cc_views::{NodeId, Text};
 use std::alloc::Global;
 use std::io::Write;

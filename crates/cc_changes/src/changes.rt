@@ -2,7 +2,7 @@
 
 ghost use Rattle.std.specs.Prelude.{◌≡◌, ◌≤◌, ◌↔◌, ◌||◌, not, length, IfOk, IsTrue};
 ghost use Rattle.std.specs.List.{filter};
-ghost use Rattle.cc_views.specs.Ascending.{IsAscending};
+ghost use Rattle.cc_views.specs.AscendingLists.{IsAscending};
 ghost use Rattle.cc_views.specs.Limits.{known_limit};
 ghost use Rattle.cc_views.specs.NatSets as set;
 ghost use Rattle.cc_changes.specs.ChangeSets as changes;

@@ -5,14 +5,15 @@ ghost use Rattle.std.specs.Prelude.{◌≤◌, IfSome, IfErr, true, None};
 ghost use Rattle.cc_channels.specs.Admissions.{IsWhy};
 
 use crate::connections::Connections;
-use crate::durable::{Durable, Flushed};
+use crate::durable::Durable;
 use crate::grants::Grants;
 use crate::waker::Waker;
-use cc_flags::Flag;
 use cc_messages::Event;
+use cc_network::Flag;
 use cc_node::{Core, Node};
 use cc_ops::{Asked, Stage};
 use cc_protocol::{Objection, is_furthest_behind, is_given_up, may_hand_over};
+use cc_site::Flushed;
 use cc_views::NodeId;
 use std::alloc::{AllocError, Global};
 use std::sync::atomic::{AtomicU64, Ordering};

@@ -6,9 +6,6 @@ use libc::net as c;
 use std::net::TcpStream;
 use std::os::fd::AsRawFd;
 
-/// How many bytes are put into one write, about.
-pub const PLENTY: usize = 65_536;
-
 /// Writes what the socket takes at once: how many of the bytes, from the first on. 0 where it would have to wait, and where it fails.
 pub fn write_at_once(to: &TcpStream, bytes: &[u8]) -> usize
     ensures { result ≤ length bytes.now }

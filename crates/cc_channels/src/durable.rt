@@ -2,15 +2,8 @@
 
 ghost use Rattle.std.specs.Prelude.{◌≡◌};
 
+use cc_site::Flushed;
 use std::marker::{Model, PhantomData};
-
-/// Names a life, of which it is known how many of its events had been made durable at one moment.
-pub trait Flushed {
-    ghost use Rattle.std.specs.Prelude.{ℕ};
-
-    /// So many had been made durable at one moment.
-    ghost flushed: { ℕ → Type 0 };
-}
 
 /// So many events of a life are durable. It can't be said of more than were made so. Contracts see the number.
 #[derive(Drop)]

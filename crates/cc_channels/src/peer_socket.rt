@@ -2,9 +2,9 @@
 
 ghost use Rattle.std.specs.Prelude.{◌≤◌};
 
-use crate::at_once::{PLENTY, write_at_once};
+use crate::at_once::write_at_once;
 use crate::send_buffer::SendBuffer;
-use cc_protocol::Parcel;
+use cc_protocol::{Parcel, WRITE_BYTES};
 use cc_views::NodeId;
 use std::alloc::Global;
 use std::net::TcpStream;
@@ -56,7 +56,7 @@ impl PeerSocket {
             return false;
         }
         let _ = self.buffer.put(self.alloc, parcel);
-        self.buffer.len() >= PLENTY && self.write(me)
+        self.buffer.len() >= WRITE_BYTES && self.write(me)
     }
 
     /// Writes what the socket takes at once of all that waits, unless the writer writes. Whether that is to write the rest.

@@ -1,6 +1,6 @@
 //! Why a node and a peer don't take each other.
 
-use cc_frames::Reason;
+use cc_network::Reason;
 
 /// Why a peer doesn't take the node that greets it.
 #[derive(Clone, Copy, PartialEq, Eq)]

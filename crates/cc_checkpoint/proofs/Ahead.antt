@@ -14,7 +14,7 @@ use Rattle.std.proofs.lemmas.List.{take_at, drop_at, take-append-le, take-append
 use Rattle.std.proofs.lemmas.List.{length-append, get_or_append_left, get_or-append_right}
 use Rattle.cc_wire.specs.declared.fault.WireFault.{WireFault}
 use Rattle.cc_wire.specs.declared.fault.WireFault.TheVariants.{Short, BadKind, NotAscending, TooLarge, Trailing, NoMemory, Broken}
-use Rattle.cc_wire.specs.Reading.{Fails, Reading}
+use Rattle.cc_wire.specs.Readers.{Fails, Reading}
 use Rattle.cc_wire.proofs.Spelled.{IsBytes, IsBytes-take, IsBytes-drop, Spelled}
 use Rattle.cc_site.specs.declared.site.Side.{Side}
 use Rattle.cc_site.specs.declared.site.Site.{Ghosts}

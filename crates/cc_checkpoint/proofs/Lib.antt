@@ -1,4 +1,4 @@
-pub mod ChoosingLaws
+pub mod SideChoiceLaws
 pub mod HeadLaws
 pub mod Imaged
 pub mod BehindRuns

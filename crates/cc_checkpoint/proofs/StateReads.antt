@@ -12,7 +12,7 @@ use Rattle.std.specs.Prelude.{◌↔◌, Option, IfSome, IsTrue, is_some}
 use Rattle.std.specs.Int.{from_be_bytes, w32}
 use Rattle.std.specs.Option.{ok_or}
 use Rattle.std.proofs.lemmas.List.{get_or-drop}
-use Rattle.cc_wire.specs.Reading.{whole}
+use Rattle.cc_wire.specs.Readers.{whole}
 use Rattle.cc_wire.proofs.Spelled.{IsBytes}
 use Rattle.cc_site.specs.declared.site.Side.{Side}
 use Rattle.cc_site.specs.declared.site.Site.{Ghosts}
@@ -21,12 +21,12 @@ use Rattle.cc_site.specs.Reads.{OnlyReads}
 use Rattle.cc_site.specs.declared.site.Call.{Call}
 use Rattle.cc_site.specs.declared.site.DeviceFault.{DeviceFault}
 use Rattle.cc_site.specs.Moments.{Rose}
-use Rattle.cc_site.specs.Telling.{Looks, LooksAt, Tells}
+use Rattle.cc_site.specs.ToldFaults.{Looks, LooksAt, Tells}
 use Rattle.cc_node.specs.Lawful.{IsLawfulNode}
 use Rattle.cc_node.specs.Node.{Node}
-use Rattle.cc_sides.specs.Layouts.{IsVersion, layout_of}
-use Rattle.cc_sides.specs.declared.layout.Layout.{Layout}
-use Rattle.cc_sides.specs.States.{State, state_at, node_of, state_of as state_of_node}
+use Rattle.cc_states.specs.Layouts.{IsVersion, layout_of}
+use Rattle.cc_states.specs.declared.layout.Layout.{Layout}
+use Rattle.cc_states.specs.States.{State, state_at, node_of, state_of as state_of_node}
 use Rattle.cc_checkpoint.specs.declared.read_fault.ReadFault.{ReadFault}
 use Rattle.cc_checkpoint.specs.declared.read_fault.ReadFault.TheVariants.{Device, NoMemory, NoState}
 use Rattle.cc_checkpoint.specs.Faults.{FaultRose}

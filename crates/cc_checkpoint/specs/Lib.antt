@@ -1,4 +1,4 @@
-pub mod Choosing
+pub mod SideChoice
 pub mod Heads
 pub mod Faults
 pub mod Images

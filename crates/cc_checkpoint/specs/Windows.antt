@@ -16,11 +16,11 @@ use Rattle.cc_site.specs.declared.site.DeviceFault.{DeviceFault}
 use Rattle.cc_site.specs.Reads.{reads_none, reads_then}
 use Rattle.cc_wire.specs.declared.fault.WireFault.{WireFault}
 use Rattle.cc_wire.specs.declared.fault.WireFault.TheVariants as wire
-use Rattle.cc_wire.specs.Reading.{Reading}
+use Rattle.cc_wire.specs.Readers.{Reading}
 use Rattle.cc_site.specs.declared.site.Side.{Side}
 use Rattle.cc_site.specs.declared.site.Site.{Ghosts}
 use Rattle.cc_site.specs.Reads.{OnlyReads}
-use Rattle.cc_site.specs.Telling.{LooksAt, Tells}
+use Rattle.cc_site.specs.ToldFaults.{LooksAt, Tells}
 use Rattle.cc_checkpoint.specs.declared.read_fault.ReadFault.{ReadFault}
 use Rattle.cc_checkpoint.specs.declared.read_fault.ReadFault.TheVariants.{Device, NoMemory, NoState}
 use Rattle.cc_checkpoint.specs.declared.unread.Unread.{Unread}

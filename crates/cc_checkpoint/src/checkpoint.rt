@@ -8,10 +8,10 @@ ghost use Rattle.cc_site.specs.Sides.{durable, other, settled, written, MayHaveW
 ghost use Rattle.cc_site.specs.Moments.{CountsFault, CountsOneFault};
 ghost use Rattle.cc_site.specs.Gates.{IsShut};
 ghost use Rattle.cc_site.specs.Runs.{EachMoment};
-ghost use Rattle.cc_site.specs.Telling.{CountsCalls};
+ghost use Rattle.cc_site.specs.ToldFaults.{CountsCalls};
 ghost use Rattle.cc_node.specs.Node.{Node as NodeState, after};
-ghost use Rattle.cc_sides.specs.States.{SpellsNode, layout_of_node, node_spelling};
-ghost use Rattle.cc_sides.specs.Sides.{IsArmed, OPEN};
+ghost use Rattle.cc_states.specs.States.{SpellsNode, layout_of_node, node_spelling};
+ghost use Rattle.cc_states.specs.Sides.{IsArmed, OPEN};
 ghost use Rattle.cc_checkpoint.specs.Stops.{Fills, Retires, HasClosed, ClosingStops, IsPastGate, ImageStops, FillStops, RetireStops};
 ghost use Rattle.cc_checkpoint.specs.Checkpoints.{IsShutNow, IsSurelyShut, IsFilled, StaysBehind, KeepsOff, RestsOn, ArmsFor, IsGoodForAll, image_of};
 

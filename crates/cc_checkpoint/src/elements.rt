@@ -3,14 +3,14 @@
 ghost use Rattle.std.specs.Prelude.{◌≡◌, ◌≤◌, ⊤, length, IfOk};
 ghost use Rattle.cc_views.specs.Limits.{session_limit};
 ghost use Rattle.cc_views.specs.Tables.{IsRising, table_of};
-ghost use Rattle.cc_wire.specs.Reading.{Gives};
+ghost use Rattle.cc_wire.specs.Readers.{Gives};
 ghost use Rattle.cc_wire.proofs.Formats.{u16_spelled, u64_spelled, view_spelled};
 ghost use Rattle.cc_wire.proofs.Lengths.{length-view, length-message};
 ghost use Rattle.cc_wire.proofs.MessageFormat.{message_spelled};
 ghost use Rattle.cc_links.specs.Rows as links;
 ghost use Rattle.cc_sessions.specs.Rows as sessions;
 ghost use Rattle.cc_outbox.specs.Rows as answers;
-ghost use Rattle.cc_sides.specs.States.{phase_spelling, round_spelling};
+ghost use Rattle.cc_states.specs.States.{phase_spelling, round_spelling};
 ghost use Rattle.cc_states.specs.Fields.{membership_in, own_in, entering_in, round_in};
 ghost use Rattle.cc_states.specs.Parts.{piece_limit};
 ghost use Rattle.cc_states.proofs.StateFormat.{membership_spelled, own_spelled, entering_spelled, round_spelled, link_spelled, sessions_spelled};
@@ -23,11 +23,10 @@ use cc_messages::Message;
 use cc_ops::Stage;
 use cc_outbox::KeptAnswer;
 use cc_sessions::SessionRow;
-use cc_sides::Layout;
 use cc_states::{
-    COUNT_LEN, Entering, FRACTION_LEN, ID_LEN, LINK_LEN, Membership, NUMBER_LEN, Own, Round,
-    SESSION_LEN, line_len, others_len, pending_len, read_entering, read_kept_answer, read_link,
-    read_membership, read_own, read_round, read_session_table,
+    COUNT_LEN, Entering, FRACTION_LEN, ID_LEN, LINK_LEN, Layout, Membership, NUMBER_LEN, Own,
+    Round, SESSION_LEN, line_len, others_len, pending_len, read_entering, read_kept_answer,
+    read_link, read_membership, read_own, read_round, read_session_table,
 };
 use cc_views::View;
 use cc_wire::{Reader, WireFault, answer_len, changes_len, message_len, value_len, view_len};

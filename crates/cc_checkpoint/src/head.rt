@@ -1,9 +1,9 @@
 //! The state of an armed side.
 
 ghost use Rattle.std.specs.Prelude.{◌≡◌, ◌≤◌, ◌+◌, length, slice_index, take, drop, IfOk, MatchResult};
-ghost use Rattle.cc_sides.specs.Layouts.{layout_of};
+ghost use Rattle.cc_states.specs.Layouts.{layout_of};
 ghost use Rattle.cc_site.specs.Reads.{OnlyReads};
-ghost use Rattle.cc_site.specs.Telling.{LooksAt};
+ghost use Rattle.cc_site.specs.ToldFaults.{LooksAt};
 ghost use Rattle.cc_checkpoint.specs.Faults.{CountsDevice};
 ghost use Rattle.cc_checkpoint.specs.Heads.{size_of, state_of, fault_of, HasState, HeadAt, HeadFails, NodeFound};
 ghost use Rattle.cc_checkpoint.specs.Windows.{CountsRead};
@@ -14,9 +14,8 @@ use crate::read_fault::ReadFault;
 use crate::side_reader::read_off;
 use crate::unread::Unread;
 use cc_node::Node;
-use cc_sides::Layout;
 use cc_site::{Side, Site, length_of, read_into};
-use cc_states::restore;
+use cc_states::{Layout, restore};
 use std::alloc::Global;
 
 // Where the state of a side begins.

@@ -1,14 +1,13 @@
 //! What stands behind the gate of a side that holds a state and no record.
 
 ghost use Rattle.std.specs.Prelude.{◌≡◌, ◌≤◌, ◌<◌, ◌^◌, ◌++◌, ◌∷◌, [], IfOk, OnOk, length};
-ghost use Rattle.cc_sides.specs.Layouts.{version_of};
-ghost use Rattle.cc_sides.specs.States.{SpellsNode, layout_of_node};
+ghost use Rattle.cc_states.specs.Layouts.{version_of};
+ghost use Rattle.cc_states.specs.States.{SpellsNode, layout_of_node};
 ghost use Rattle.cc_checkpoint.specs.Images.{image_spelling, SpellsImage};
 
 use cc_node::Node;
-use cc_sides::Layout;
 use cc_site::CLOSED_GATE;
-use cc_states::encode_state;
+use cc_states::{Layout, encode_state};
 use cc_views::NoMemory;
 use cc_wire::{put_u8, put_u32, put_u64};
 use std::alloc::{AllocError, Global};

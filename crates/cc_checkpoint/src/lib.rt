@@ -2,7 +2,6 @@
 #![tactic(auto)]
 
 mod checkpoint;
-mod choosing;
 mod elements;
 mod head;
 mod image;
@@ -10,6 +9,7 @@ mod open_fault;
 mod piece;
 mod pieces;
 mod read_fault;
+mod side_choice;
 mod side_reader;
 mod unread;
 mod window;
@@ -19,9 +19,9 @@ pub use cc_states::{
     lawful_states_are_of_nodes, one_spelling_of_nodes, one_spelling_of_states,
 };
 pub use checkpoint::{arm, fill, retire};
-pub use choosing::{InUse, Peeked, choose, peek};
 pub use head::read_state;
 pub use image::encode_image;
 pub use open_fault::OpenFault;
 pub use piece::Piece;
 pub use pieces::{Pieces, state_length};
+pub use side_choice::{InUse, Peeked, choose, peek};

@@ -3,7 +3,7 @@
 ghost use Rattle.std.specs.Prelude.{ℕ, List, ◌≡◌, ◌≤◌, ◌+◌, ◌++◌, ◌∷◌, [], length, take, drop, vec_len, IfOk, OnOk};
 ghost use Rattle.std.specs.Int.{to_be_bytes, w32, w64};
 ghost use Rattle.std.specs.Vec.{vec_capacity};
-ghost use Rattle.cc_wire.specs.Writing.{Writes};
+ghost use Rattle.cc_wire.specs.Writers.{Writes};
 ghost use Rattle.cc_site.specs.declared.site.Call.TheVariants.{Read};
 ghost use Rattle.cc_site.specs.Moments.{CountsFault};
 ghost use Rattle.cc_site.specs.Reads.{OnlyReads};

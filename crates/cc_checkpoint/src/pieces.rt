@@ -1,7 +1,7 @@
 //! A node's state in pieces, so that it is written through one buffer, however long it is.
 
 ghost use Rattle.std.specs.Prelude.{ℕ, List, ◌≡◌, ◌≤◌, ◌<◌, ◌^◌, ◌++◌, [], length};
-ghost use Rattle.cc_sides.specs.States.{node_spelling};
+ghost use Rattle.cc_states.specs.States.{node_spelling};
 ghost use Rattle.cc_states.specs.Parts.{parts_of, joined, piece_limit};
 
 use crate::piece::Piece;

@@ -1,8 +1,8 @@
 //! What is still to be read of a side, as a source of bytes: a state is read off it through one buffer.
 
 ghost use Rattle.std.specs.Prelude.{◌≡◌, IfOk};
-ghost use Rattle.cc_wire.specs.Reading.{whole};
-ghost use Rattle.cc_sides.specs.States.{state_at};
+ghost use Rattle.cc_wire.specs.Readers.{whole};
+ghost use Rattle.cc_states.specs.States.{state_at};
 ghost use Rattle.cc_states.specs.Fields.{state_in, AreRead};
 ghost use Rattle.cc_states.specs.Sources.{failure_of};
 ghost use Rattle.cc_states.specs.Sources as sources;
@@ -20,9 +20,10 @@ use cc_links::LinkRow;
 use cc_messages::Message;
 use cc_outbox::KeptAnswer;
 use cc_sessions::SessionRow;
-use cc_sides::Layout;
 use cc_site::{DeviceFault, Site};
-use cc_states::{Entering, Fields, Membership, Own, Round, Source, SourceFault, read_whole};
+use cc_states::{
+    Entering, Fields, Layout, Membership, Own, Round, Source, SourceFault, read_whole,
+};
 use cc_views::View;
 use cc_wire::WireFault;
 use std::alloc::Global;

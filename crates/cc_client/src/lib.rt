@@ -1,20 +1,42 @@
-//! A client of a node over TCP: it has one command done, or brings the operator's request. What it sends and waits by serves
-//! the clients of a load too.
+//! A client of running nodes over TCP: one command, a load of many clients at once, and a look at what a node shows.
 #![tactic(auto)]
 
 mod advice;
-mod asking;
+mod client;
+mod command;
 mod deadline;
+mod fault;
+mod fetch;
+mod frame_sender;
+mod head;
 mod json;
-mod operating;
-mod printing;
-mod sending;
+mod latencies;
+mod load;
+mod look;
+mod operator_asks;
+mod printed;
+mod report;
 mod silence;
 mod snapshot;
+mod status;
+mod table;
+mod tally;
 
 pub use advice::Advice;
-pub use asking::ask_node;
+pub use command::ask_node;
 pub use deadline::Deadline;
-pub use operating::{leave_node, retire_node, share_node};
-pub use sending::{connect, pause, receive, send};
+pub use fault::LookFault;
+pub use frame_sender::{connect, pause, receive, send};
+pub use head::{body_of, reason_of};
+pub use latencies::Latencies;
+pub use load::load_nodes;
+pub use look::{Look, look_at, reason_at};
+pub use operator_asks::{leave_node, retire_node, share_node};
+pub use report::{Bucket, PrintedRefusal, Report};
 pub use silence::{Silence, Told};
+pub use status::{
+    CountPart, DiskPart, PeerPart, PostPart, QuorumPart, RoundPart, RowPart, RowText, SkipPart,
+    Status, SyncPart,
+};
+pub use table::Table;
+pub use tally::Tally;

@@ -2,15 +2,15 @@
 //! Shared Memory", the double collect).
 
 use crate::advice::Advice;
-use crate::asking::{Asking, Ended};
+use crate::command::{Asking, Ended};
 use crate::deadline::Deadline;
-use crate::printing::{print_answer, print_no_snapshot};
+use crate::printed::{print_answer, print_no_snapshot};
 use crate::silence::Told;
 use cc_messages::{Answer, Command, NumberList};
 use cc_objects::{flag_of, max_of, set_of};
-use cc_orders::AskOrder;
 use cc_protocol::Client;
 use cc_views::{NoMemory, View};
+use cc_words::AskOrder;
 use std::alloc::{AllocError, Global};
 use std::io;
 use std::io::Write;

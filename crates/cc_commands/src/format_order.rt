@@ -1,11 +1,10 @@
 //! How a folder is to be formatted.
 
 use crate::warning::Warning;
-use cc_addresses::ClusterName;
 use cc_changes::{Fraction, need};
+use cc_network::ClusterName;
 use cc_node::Opening;
-use cc_orders::{FormatWords, WordFault};
-use cc_words::{fraction, list, small_number};
+use cc_words::{FormatWords, WordFault, fraction, list, small_number};
 use std::alloc::Global;
 
 // The fractions of a node where no word says others.

@@ -1,8 +1,8 @@
 //! Whose folder it is.
 
 use cc_checkpoint::OpenFault;
-use cc_files::{FileSite, NoOutlet, SiteFault};
 use cc_flush::{Back, Flusher};
+use cc_site::{FileSite, NoOutlet, SiteFault};
 use cc_views::NodeId;
 use std::alloc::Global;
 use std::fs::{File, Files};

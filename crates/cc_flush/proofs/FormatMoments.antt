@@ -15,11 +15,11 @@ use Rattle.cc_site.specs.Runs.{EachMoment, OnlyNow, started, joined, weaker}
 use Rattle.cc_site.specs.Crashes.{each_side}
 use Rattle.cc_site.specs.Reads.{OnlyReads, read_each}
 use Rattle.cc_node.specs.Node.{Node}
-use Rattle.cc_sides.specs.Sides.{OPEN, IsArmed, Holds}
+use Rattle.cc_states.specs.Sides.{OPEN, IsArmed, Holds}
 use Rattle.cc_checkpoint.specs.Images.{SpellsImage, image_holds}
 use Rattle.cc_journal.specs.Journals.{IsAtRest}
-use Rattle.cc_flush.proofs.Keeping.{none_made}
-use Rattle.cc_flush.specs.Formatting.{BeginsWith, AreShut, StayShut, Arms, HasNoneOrAll, IsNoneOrWhole}
+use Rattle.cc_flush.proofs.KeptSides.{none_made}
+use Rattle.cc_flush.specs.FormatSides.{BeginsWith, AreShut, StayShut, Arms, HasNoneOrAll, IsNoneOrWhole}
 
 closed : ◌≡◌ {A = ℕ} 0 OPEN → ⊥
 closed is = absurd cc

@@ -11,20 +11,20 @@ use Rattle.cc_site.specs.Reads.{OnlyReads, reads_then}
 use Rattle.cc_site.specs.Sides.{SideState, MayLeave, other, settled}
 use Rattle.cc_site.specs.Moments.{Contents}
 use Rattle.cc_node.specs.Node.{Node}
-use Rattle.cc_sides.specs.Sides.{StandsAt}
-use Rattle.cc_checkpoint.specs.declared.choosing.InUse.{InUse}
+use Rattle.cc_states.specs.Sides.{StandsAt}
+use Rattle.cc_checkpoint.specs.declared.side_choice.InUse.{InUse}
 use Rattle.cc_checkpoint.specs.declared.open_fault.OpenFault.{OpenFault}
-use Rattle.cc_checkpoint.specs.Choosing.{chosen}
+use Rattle.cc_checkpoint.specs.SideChoice.{chosen}
 use Rattle.cc_checkpoint.specs.Heads.{HeadAt}
-use Rattle.cc_checkpoint.proofs.ChoosingLaws.{chosen_takes}
+use Rattle.cc_checkpoint.proofs.SideChoiceLaws.{chosen_takes}
 use Rattle.cc_checkpoint.proofs.HeadLaws.{head_spelled}
 use Rattle.cc_journal.specs.Journals.{Position}
-use Rattle.cc_journal.specs.Scanning.{ScansTo}
+use Rattle.cc_journal.specs.Scans.{ScansTo}
 use Rattle.cc_flush.specs.declared.opened.Opened.{Opened}
 use Rattle.cc_flush.specs.declared.opening.Found.{Found}
 use Rattle.cc_flush.specs.Engine.{IsSettled, StandsNow}
-use Rattle.cc_flush.proofs.Keeping.{settled_bytes}
-use Rattle.cc_flush.specs.Opening.{AreSettled, HoldsRecords, IsFound, SideFails, ReadingFails, OpenFails}
+use Rattle.cc_flush.proofs.KeptSides.{settled_bytes}
+use Rattle.cc_flush.specs.Openings.{AreSettled, HoldsRecords, IsFound, SideFails, ReadingFails, OpenFails}
 
 module _ (left : Contents) (used : InUse) (start node : Node) (first size records events : ℕ) (bytes : (side : Side) → IsBytes (left side))
     (chose : chosen (left A) (left B) ≡ Ok used) (at_head : HeadAt (left used.side) start first)

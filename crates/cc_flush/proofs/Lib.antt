@@ -1,14 +1,14 @@
-mod Keeping
+mod KeptSides
 mod FormatMoments
 mod FoundSides
 mod Resends
-mod Putting
-mod Flushing
+mod PutOutputs
+mod CommitSteps
 mod OneNode
 mod NodeOrFault
 mod Reopened
-mod ArmingAgain
-mod OpeningAnew
-pub mod Advancing
-pub mod MovingRuns
+mod RearmedSides
+mod AnewOpenings
+pub mod LifeSteps
+pub mod CheckpointRuns
 mod Lengths

@@ -11,19 +11,19 @@ use Rattle.cc_site.specs.declared.site.Side.TheVariants.{A, B}
 use Rattle.cc_site.specs.Sides.{other}
 use Rattle.cc_site.specs.Moments.{Contents}
 use Rattle.cc_node.specs.Node.{Node}
-use Rattle.cc_sides.specs.Layouts.{IsVersion, layout_of}
-use Rattle.cc_sides.specs.Sides.{OPEN, StandsIn, Stands}
-use Rattle.cc_sides.specs.States.{SpellsNode}
-use Rattle.cc_sides.specs.Fronts.{generation_held, held_armed}
-use Rattle.cc_checkpoint.specs.declared.choosing.InUse.{InUse}
+use Rattle.cc_states.specs.Layouts.{IsVersion, layout_of}
+use Rattle.cc_states.specs.Sides.{OPEN, StandsIn, Stands}
+use Rattle.cc_states.specs.States.{SpellsNode}
+use Rattle.cc_states.specs.Fronts.{generation_held, held_armed}
+use Rattle.cc_checkpoint.specs.declared.side_choice.InUse.{InUse}
 use Rattle.cc_checkpoint.specs.declared.open_fault.OpenFault.{OpenFault}
 use Rattle.cc_checkpoint.specs.declared.open_fault.OpenFault.TheVariants.{NotFormatted, Damaged, Version, Device, NoMemory}
 use Rattle.cc_checkpoint.specs.Faults.{◌>>=◌}
-use Rattle.cc_checkpoint.specs.Choosing.{generation_in, in_use, greater, chosen}
+use Rattle.cc_checkpoint.specs.SideChoice.{generation_in, in_use, greater, chosen}
 use Rattle.cc_checkpoint.specs.Heads.{size_of, state_of, HeadAt, HasVersion, HasState, HeadFails}
-use Rattle.cc_checkpoint.proofs.ChoosingLaws.{chosen_again}
-use Rattle.cc_journal.specs.Scanning.{ScansTo, StopsAt}
-use Rattle.cc_flush.specs.Opening.{IsReadingFault, RecordsFail, SideFails, ReadingFails}
+use Rattle.cc_checkpoint.proofs.SideChoiceLaws.{chosen_again}
+use Rattle.cc_journal.specs.Scans.{ScansTo, StopsAt}
+use Rattle.cc_flush.specs.Openings.{IsReadingFault, RecordsFail, SideFails, ReadingFails}
 use Rattle.cc_flush.proofs.FoundSides.{held}
 use Rattle.cc_flush.proofs.OneNode.{OneState, Read, read}
 

@@ -2,14 +2,14 @@
 use Rattle.std.proofs.Common.{◌≡◌, inl, inr, slice_index, ℕ, ◌+◌, ◌<◌, List, [], ◌∷◌, ◌++◌, length, drop, refl, sym, ◌∙◌, ap, subst, arith, length-append}
 use Rattle.std.proofs.lemmas.List.{append_assoc, drop_at}
 use Rattle.cc_node.specs.Node.{Node}
-use Rattle.cc_sides.specs.Sides.{IsArmed, generation_of, Holds, Yields, StandsAt, StandsIn, Stands, events_of}
-use Rattle.cc_sides.specs.declared.layout.Layout.{Layout}
-use Rattle.cc_sides.specs.Layouts.{layout_of}
-use Rattle.cc_sides.specs.States.{SpellsNode}
-use Rattle.cc_sides.specs.Fronts.{generation_held, held_armed}
+use Rattle.cc_states.specs.Sides.{IsArmed, generation_of, Holds, Yields, StandsAt, StandsIn, Stands, events_of}
+use Rattle.cc_states.specs.declared.layout.Layout.{Layout}
+use Rattle.cc_states.specs.Layouts.{layout_of}
+use Rattle.cc_states.specs.States.{SpellsNode}
+use Rattle.cc_states.specs.Fronts.{generation_held, held_armed}
 use Rattle.cc_checkpoint.specs.Heads.{HeadAt, state_of}
 use Rattle.cc_checkpoint.proofs.HeadLaws.{head_found}
-use Rattle.cc_journal.specs.Scanning.{ScansTo}
+use Rattle.cc_journal.specs.Scans.{ScansTo}
 
 abbrev pub OneState : Type 0
 OneState = (layout : Layout) (a b u w : List ℕ) (x y : Node) → SpellsNode layout a x → SpellsNode layout b y → a ++ u ≡ b ++ w → (x ≡ y) × (a ≡ b)

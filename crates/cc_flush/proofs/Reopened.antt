@@ -3,14 +3,14 @@
 use Rattle.std.proofs.Common.{◌≡◌, ◌⊎◌, ◌≤◌, ◌∷◌, inl, inr, sym, ◌∙◌, ap, subst}
 use Rattle.cc_site.specs.declared.site.Site.{Ghosts}
 use Rattle.cc_site.specs.Sides.{durable, other}
-use Rattle.cc_sides.specs.Sides.{OPEN}
+use Rattle.cc_states.specs.Sides.{OPEN}
 use Rattle.cc_checkpoint.specs.Checkpoints.{image_of}
 use Rattle.cc_node.specs.Node.{Node}
 use Rattle.cc_views.specs.Limits.{counter_limit}
 use Rattle.cc_flush.specs.declared.opened.Opened.{Opened}
 use Rattle.cc_flush.specs.Engine.{Engine}
-use Rattle.cc_flush.specs.Moving.{Moves}
-use Rattle.cc_flush.specs.Reopening.{IsAnew}
+use Rattle.cc_flush.specs.Checkpoints.{Moves}
+use Rattle.cc_flush.specs.Reopenings.{IsAnew}
 
 pub anew_after : {D : Type 0} (s : Ghosts D) (old new : Engine D) → old.opened.side ≡ old.at.side → new.opened ≡ old.opened → new.twin ≡ old.twin
     → s.honest old.site → ((counter_limit ≤ old.generation) × (new ≡ old)) ⊎ Moves s old new → IsAnew s new

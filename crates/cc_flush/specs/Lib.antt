@@ -1,8 +1,8 @@
 pub mod Engine
-pub mod Opening
-pub mod Formatting
-pub mod Standing
-pub mod Flushing
+pub mod Openings
+pub mod FormatSides
+pub mod Resends
+pub mod Commits
 pub mod Lives
-pub mod Moving
-pub mod Reopening
+pub mod Checkpoints
+pub mod Reopenings

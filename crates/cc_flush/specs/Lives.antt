@@ -22,7 +22,7 @@ use Rattle.cc_site.specs.Sides.{other}
 use Rattle.cc_site.specs.declared.site.DeviceFault.{DeviceFault}
 use Rattle.cc_views.specs.Limits.{counter_limit}
 use Rattle.cc_node.specs.Node.{Node, after, line}
-use Rattle.cc_checkpoint.specs.declared.choosing.InUse.{InUse}
+use Rattle.cc_checkpoint.specs.declared.side_choice.InUse.{InUse}
 use Rattle.cc_journal.specs.declared.entry.Entry.{Entry}
 use Rattle.cc_journal.specs.Batches.{AreLawful, events_in}
 use Rattle.cc_journal.specs.GoodSides.{KeepsSides}
@@ -31,9 +31,9 @@ use Rattle.cc_flush.specs.declared.flusher.Failed.{Failed}
 use Rattle.cc_flush.specs.declared.actions.Action.{Action}
 use Rattle.cc_flush.specs.declared.actions.Action.TheVariants.{Turn, Resend, Again, Reack, Checkpoint}
 use Rattle.cc_flush.specs.Engine.{Engine, in_use_of}
-use Rattle.cc_flush.specs.Flushing.{Commits, HasLived, LeadsToSides, Advances, GivesUp}
-use Rattle.cc_flush.specs.Moving.{MoveCalls, Moves}
-use Rattle.cc_flush.specs.Standing.{resends, reply_again, ack_again}
+use Rattle.cc_flush.specs.Commits.{Commits, HasLived, LeadsToSides, Advances, GivesUp}
+use Rattle.cc_flush.specs.Checkpoints.{MoveCalls, Moves}
+use Rattle.cc_flush.specs.Resends.{resends, reply_again, ack_again}
 
 abbrev pub events_by : Action → List Event
 events_by (Turn batch) = events_in batch

@@ -3,20 +3,20 @@
 
 mod actions;
 mod back;
-mod committing;
+mod checkpoint;
+mod commit;
 mod flusher;
-mod formatting;
+mod format_sides;
 mod laws;
-mod moving;
 mod opened;
 mod opening;
-mod reopening;
-mod standing;
+mod reopen;
+mod resend;
 
 pub use actions::Action;
 pub use back::Back;
 pub use flusher::{CheckpointFault, Failed, Flusher};
-pub use formatting::{FormatFault, format};
+pub use format_sides::{FormatFault, format};
 pub use laws::{good_for_more, good_parts, node_or_fault, one_node, rests_with_all, shut_side};
 pub use opened::Opened;
-pub use reopening::open_anew;
+pub use reopen::open_anew;

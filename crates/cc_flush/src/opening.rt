@@ -6,12 +6,12 @@ ghost use Rattle.cc_site.specs.declared.site.Side.TheVariants.{A, B};
 ghost use Rattle.cc_site.specs.Moments.{Possible, Nothing};
 ghost use Rattle.cc_site.specs.Runs.{Passes, EachMoment};
 ghost use Rattle.cc_site.specs.Reads.{OnlyReads, bytes_of};
-ghost use Rattle.cc_site.specs.Telling.{LooksAt, LooksAtEither};
+ghost use Rattle.cc_site.specs.ToldFaults.{LooksAt, LooksAtEither};
 ghost use Rattle.cc_checkpoint.specs.declared.open_fault.OpenFault.TheVariants as faults;
 ghost use Rattle.cc_checkpoint.specs.Faults.{CountsDevice};
-ghost use Rattle.cc_journal.specs.Reading.{IsScanned};
+ghost use Rattle.cc_journal.specs.EventReads.{IsScanned};
 ghost use Rattle.cc_flush.specs.Engine.{StandsNow};
-ghost use Rattle.cc_flush.specs.Opening.{AreSettled, IsFound, IsReadingFault, OpenFails, OpenStops, Opens, RecordsFail, Syncs, of_scan};
+ghost use Rattle.cc_flush.specs.Openings.{AreSettled, IsFound, IsReadingFault, OpenFails, OpenStops, Opens, RecordsFail, Syncs, of_scan};
 
 use crate::opened::Opened;
 use cc_checkpoint::{InUse, OpenFault, Piece, choose, read_state};

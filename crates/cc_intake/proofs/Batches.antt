@@ -6,7 +6,7 @@ use Rattle.cc_node.specs.Node.{Node, after}
 use Rattle.cc_journal.specs.declared.entry.Entry.{Entry}
 use Rattle.cc_journal.specs.Batches.{AreLawful, events_in}
 use Rattle.cc_intake.specs.Histories.{life_limit}
-use Rattle.cc_intake.specs.Turning.{listed}
+use Rattle.cc_intake.specs.Turners.{listed}
 use Rattle.cc_intake.specs.Turns.{Gathers}
 use Rattle.cc_journal.specs.BatchLaws.{after_both, lawful_front, lawful_rest}
 

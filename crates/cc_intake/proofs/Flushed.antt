@@ -6,8 +6,8 @@ use Rattle.cc_site.specs.declared.site.Site.{Ghosts}
 use Rattle.cc_site.specs.Runs.{OnlyNow}
 use Rattle.cc_journal.specs.declared.entry.Entry.{Entry}
 use Rattle.cc_flush.specs.Engine.{Engine}
-use Rattle.cc_flush.specs.Flushing.{LeadsTo, Flushes}
-use Rattle.cc_flush.proofs.Advancing.{stays}
+use Rattle.cc_flush.specs.Commits.{LeadsTo, Flushes}
+use Rattle.cc_flush.proofs.LifeSteps.{stays}
 
 pub no_entry : (batch : List Entry) → length batch ≡ 0 → batch ≡ []
 no_entry [] none = refl

@@ -1,6 +1,6 @@
 pub mod Moves
 pub mod Batches
-pub mod Refusing
+pub mod RefusedEvents
 pub mod Flushed
-pub mod Handing
-pub mod Talking
+pub mod TurnerSteps
+pub mod TalkSteps

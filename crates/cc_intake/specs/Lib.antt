@@ -1,8 +1,8 @@
 pub mod Histories
 pub mod Line
 pub mod Ends
-pub mod Accepting
+pub mod Intakes
 pub mod Refusals
-pub mod Turning
+pub mod Turners
 pub mod Turns
 pub mod Talks

@@ -11,7 +11,7 @@ use mathlib.Core.Option.{some}
 use lib.ListN.{get_elem?}
 use Rattle.atomic_table.specs.Seated.{TableId}
 use Rattle.cc_node.specs.Node.{Node}
-use Rattle.cc_node.specs.Opening.{fresh}
+use Rattle.cc_node.specs.Openings.{fresh}
 use Rattle.cc_journal.specs.declared.entry.Entry.{Entry}
 use Rattle.cc_journal.specs.Batches.{AreLawful}
 use Rattle.cc_intake.specs.declared.rule.PassView.{PassView}

@@ -10,7 +10,7 @@ use Rattle.cc_node.specs.Node.{Node}
 use Rattle.cc_node.specs.Refusals.{decides}
 use Rattle.cc_journal.specs.declared.entry.Entry.{Entry}
 use Rattle.cc_intake.specs.Histories.{life_limit, core_after}
-use Rattle.cc_intake.specs.Accepting.{Accepting}
+use Rattle.cc_intake.specs.Intakes.{Accepting}
 use Rattle.cc_intake.specs.Ends.{queue_limit}
 use Rattle.cc_intake.specs.Line.{WasRest}
 

@@ -12,7 +12,7 @@ use Rattle.cc_node.specs.Node.{Node}
 use Rattle.cc_journal.specs.declared.entry.Entry.{Entry}
 use Rattle.cc_intake.specs.declared.intake.Accepted.{Accepted}
 use Rattle.cc_intake.specs.declared.intake.Refused.{Refused}
-use Rattle.cc_intake.specs.Accepting.{Accepting}
+use Rattle.cc_intake.specs.Intakes.{Accepting}
 use Rattle.cc_intake.specs.Histories.{core_after, entry_at, stirs}
 use Rattle.cc_intake.specs.Refusals.{MayAccept, Refuses}
 

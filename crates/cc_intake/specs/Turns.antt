@@ -5,13 +5,13 @@
 --     Turns                   a batch was popped, and handed to the engine
 use Rattle.std.specs.Prelude.{◌≡◌, ◌≤◌, ◌<◌, ◌⊎◌, ◌+◌, ℕ, List, [], ◌∷◌, ◌++◌, length, Option, None, IsSomeAnd, IsFalse, IfOk, Result, MatchResult}
 use Rattle.cc_site.specs.declared.site.Site.{Ghosts}
-use Rattle.cc_sides.specs.Sides.{batch_limit, record_limit, events_spelling}
+use Rattle.cc_states.specs.Sides.{batch_limit, record_limit, events_spelling}
 use Rattle.cc_journal.specs.declared.entry.Entry.{Entry}
 use Rattle.cc_journal.specs.Batches.{events_in}
 use Rattle.cc_flush.specs.declared.flusher.Failed.{Failed}
 use Rattle.cc_intake.specs.declared.turner.Turned.{Turned}
-use Rattle.cc_intake.specs.Turning.{Turning, listed, popped}
-use Rattle.cc_flush.specs.Flushing.{Flushes, FlushFails}
+use Rattle.cc_intake.specs.Turners.{Turning, listed, popped}
+use Rattle.cc_flush.specs.Commits.{Flushes, FlushFails}
 
 abbrev pub Fits : List Entry → Entry → Type 0
 Fits batch e = (length batch < batch_limit) × (length (events_spelling (events_in (batch ++ e ∷ []))) ≤ record_limit)

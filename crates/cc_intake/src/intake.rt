@@ -3,7 +3,7 @@
 ghost use Rattle.std.specs.Prelude.{◌≡◌, ◌≤◌, ◌<◌, ◌+◌, [], ◌∷◌, ◌++◌, length, sum, IfOk, IfErr, OnErr, MatchOption};
 ghost use Rattle.cc_node.specs.Core.{made};
 ghost use Rattle.cc_intake.specs.Histories.{life_limit, core_after, entry_at, stirs};
-ghost use Rattle.cc_intake.specs.Accepting.{share_limit};
+ghost use Rattle.cc_intake.specs.Intakes.{share_limit};
 ghost use Rattle.cc_intake.specs.Refusals.{MayAccept, Refuses};
 
 use crate::ends::{Producer, Queue};
@@ -124,7 +124,7 @@ pub struct Intake<L: Life, Q: Lane> {
 impl<L: Life, Q: Lane> Model for Intake<L, Q> {
     ghost use Rattle.std.specs.Prelude.{◌≡◌, ◌+◌, ◌≤◌, length};
     ghost use Rattle.cc_intake.specs.Histories.{life_limit, core_after};
-    ghost use Rattle.cc_intake.specs.Accepting.{Accepting, accepting_code, share_limit};
+    ghost use Rattle.cc_intake.specs.Intakes.{Accepting, accepting_code, share_limit};
 
     ghost Value = { Accepting };
 

@@ -2,8 +2,8 @@
 
 ghost use Rattle.std.specs.Prelude.{◌≡◌, ◌+◌, ◌++◌, ℕ, List, [], None, false, length, sum};
 ghost use Rattle.cc_journal.specs.declared.entry.Entry.{Entry};
-ghost use Rattle.cc_intake.specs.Accepting.{share_limit};
-ghost use Rattle.cc_intake.specs.Turning.{popped};
+ghost use Rattle.cc_intake.specs.Intakes.{share_limit};
+ghost use Rattle.cc_intake.specs.Turners.{popped};
 
 use crate::ends::{Ends, Queue};
 use crate::intake::{Intake, Share};

@@ -8,11 +8,11 @@ ghost use Rattle.cc_links.specs.Links.{heard_from};
 ghost use Rattle.cc_node.specs.Node.{after};
 ghost use Rattle.cc_journal.specs.Batches.{AreLawful, events_in};
 ghost use Rattle.cc_journal.specs.Journals.{room_limit, StaysGood};
-ghost use Rattle.cc_flush.specs.Flushing.{FlushFails, Flushes, LeadsTo, PutsAgain};
-ghost use Rattle.cc_flush.specs.Moving.{Moves, MoveStops};
-ghost use Rattle.cc_flush.specs.Standing.{resends, reply_again, ack_again};
+ghost use Rattle.cc_flush.specs.Commits.{FlushFails, Flushes, LeadsTo, PutsAgain};
+ghost use Rattle.cc_flush.specs.Checkpoints.{Moves, MoveStops};
+ghost use Rattle.cc_flush.specs.Resends.{resends, reply_again, ack_again};
 ghost use Rattle.cc_intake.specs.Histories.{life_limit};
-ghost use Rattle.cc_intake.specs.Turning.{listed, popped};
+ghost use Rattle.cc_intake.specs.Turners.{listed, popped};
 ghost use Rattle.cc_intake.specs.Turns.{IsDone, Gathers, Turns};
 
 use crate::ends::{Consumer, Queue};
@@ -47,7 +47,7 @@ pub struct Turner<S: Site, L: Life, Q: Lane> {
 
 impl<S: Site, L: Life, Q: Lane> Model for Turner<S, L, Q> {
     ghost use Rattle.std.specs.Prelude.{◌≡◌, ℕ, [], take};
-    ghost use Rattle.cc_intake.specs.Turning.{Turning, turning_code, IsTurner, TellsEach};
+    ghost use Rattle.cc_intake.specs.Turners.{Turning, turning_code, IsTurner, TellsEach};
 
     ghost Value = { Turning S };
 
@@ -59,7 +59,7 @@ impl<S: Site, L: Life, Q: Lane> Model for Turner<S, L, Q> {
 }
 
 impl<S: Site, L: Life, Q: Lane> Turner<S, L, Q> {
-    #[tactic(auto, using(crate::specs::Turning::tells_each))]
+    #[tactic(auto, using(crate::specs::Turners::tells_each))]
     pub(crate) fn new(engine: Flusher<S>, consumer: Consumer<L, Q>) -> Self
         requires owes { engine.owes ≡ false }
         requires twin { engine.failed ≡ None → engine.twin ≡ L.opening }

@@ -4,9 +4,9 @@ pub mod Puts
 pub mod LinkSends
 mod EventOutputs
 mod Steps
-mod EventReading
-mod BodyReading
-mod RecordReading
+mod EventReadLaws
+mod BodyReads
+mod RecordReads
 mod Scans
 mod ScanLaws
 mod Multiples

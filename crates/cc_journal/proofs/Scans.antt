@@ -8,10 +8,10 @@ use Rattle.std.proofs.lemmas.List.{append_assoc, drop_at, drop-drop, drop_all}
 use Rattle.cc_messages.specs.declared.event.Event.{Event}
 use Rattle.cc_node.specs.Node.{Node, after, IsLawful}
 use Rattle.cc_node.specs.Histories.{after-append, IsLawful-append}
-use Rattle.cc_sides.specs.Sides.{OPEN, SpellsRecords, events_of}
-use Rattle.cc_sides.specs.Fronts.{records_push, events_push}
-use Rattle.cc_journal.specs.Scanning.{ScansTo, StopsAt, NoRecord}
-use Rattle.cc_journal.specs.Reading.{RecordLeads, BeginsOpen, BeginsClosed, IsStopped}
+use Rattle.cc_states.specs.Sides.{OPEN, SpellsRecords, events_of}
+use Rattle.cc_states.specs.Fronts.{records_push, events_push}
+use Rattle.cc_journal.specs.Scans.{ScansTo, StopsAt, NoRecord}
+use Rattle.cc_journal.specs.EventReads.{RecordLeads, BeginsOpen, BeginsClosed, IsStopped}
 
 -- the place of a stop behind records: the end, or an open gate behind which no record stands
 abbrev pub Stop : (front rest : List ℕ) (node : Node) (place : ℕ) → Type 0

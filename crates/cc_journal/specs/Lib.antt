@@ -5,5 +5,5 @@ pub mod GoodSides
 pub mod GoodSideLaws
 pub mod Outlet
 pub mod Codes
-pub mod Scanning
-pub mod Reading
+pub mod Scans
+pub mod EventReads

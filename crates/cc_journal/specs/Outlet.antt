@@ -14,7 +14,7 @@ use Rattle.cc_messages.specs.declared.output.Output.TheVariants as output
 use Rattle.cc_node.specs.Core.{Core}
 use Rattle.cc_messages.specs.declared.message.Message.{Message}
 use Rattle.cc_messages.specs.declared.output.Output.{Output}
-use Rattle.cc_ops.specs.declared.pending.Reply.{Reply}
+use Rattle.cc_ops.specs.declared.pending_operation.Reply.{Reply}
 use Rattle.cc_outbox.specs.Outbox.{Outbox}
 use Rattle.cc_node.specs.Node.{Node}
 use Rattle.cc_site.specs.declared.site.Side.{Side}

@@ -4,7 +4,7 @@ ghost use Rattle.std.specs.Prelude.{◌≡◌, List, IfOk, MatchOption, MatchBoo
 ghost use Rattle.cc_messages.specs.declared.event.Event.{Event};
 ghost use Rattle.cc_wire.specs.Events.{SpellsEvent};
 ghost use Rattle.cc_node.specs.Node.{after, IsLawful};
-ghost use Rattle.cc_journal.specs.Reading.{SpellsEvents, BeginsWith, NoEvent, BytesLead, LeadNowhere};
+ghost use Rattle.cc_journal.specs.EventReads.{SpellsEvents, BeginsWith, NoEvent, BytesLead, LeadNowhere};
 
 use crate::batch::Batch;
 use cc_messages::{Event, Refusal};

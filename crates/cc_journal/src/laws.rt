@@ -2,7 +2,7 @@
 
 ghost use Rattle.std.specs.Prelude.{◌≡◌, ℕ, List};
 ghost use Rattle.cc_node.specs.Node.{Node};
-ghost use Rattle.cc_journal.specs.Scanning.{ScansTo, StopsAt};
+ghost use Rattle.cc_journal.specs.Scans.{ScansTo, StopsAt};
 
 /// Bytes are scanned in one way: either to one node, with one count of bytes, records and events, or up to one place
 /// at which they stop; and it can't be that neither holds.

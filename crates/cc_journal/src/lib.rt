@@ -9,11 +9,11 @@ mod journal;
 mod laws;
 mod outlet;
 mod record;
-mod scanning;
+mod record_scan;
 
 pub use ahead::{ROOM_LIMIT, zeros_ahead};
 pub use batch::Batch;
 pub use entry::Entry;
 pub use journal::{Flight, Forfeit, Journal, Landed};
 pub use laws::scans_once;
-pub use scanning::{ScanFault, Scanned, scan};
+pub use record_scan::{ScanFault, Scanned, scan};

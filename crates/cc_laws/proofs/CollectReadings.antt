@@ -27,13 +27,13 @@ use Rattle.cc_laws.specs.Written.{IsWriteOf}
 use Rattle.cc_laws.specs.Regular.{IsAnswered, IsStored, IsAhead, SeesWrite, RoundsMeet, ShareNode}
 use Rattle.cc_laws.specs.ReadBack.{IsDone}
 use Rattle.cc_laws.specs.DoubleCollects.{Moment, DoubleCollect}
-use Rattle.cc_laws.proofs.Lasting.{IsStable, value_stays, max_lasts, flag_lasts, set_lasts, max_bounds, max_least, flag_there, flag_from, set_there, set_from}
-use Rattle.cc_laws.proofs.Agreeing.{all_written}
-use Rattle.cc_laws.proofs.Clustering.{one_at}
+use Rattle.cc_laws.proofs.LastingWrites.{IsStable, value_stays, max_lasts, flag_lasts, set_lasts, max_bounds, max_least, flag_there, flag_from, set_there, set_from}
+use Rattle.cc_laws.proofs.Agreement.{all_written}
+use Rattle.cc_laws.proofs.ClusterSteps.{one_at}
 use Rattle.cc_laws.proofs.Regularity.{Course, course, reading_end, one_shares, each_shares, collect_sees, collects_in_turn}
 use Rattle.cc_laws.proofs.ReadingBack.{done_seen}
 use Rattle.cc_laws.proofs.Traces.{run_sent}
-use Rattle.cc_laws.proofs.DoubleCollecting.{Leads, led_on, later, to_end, answered_later}
+use Rattle.cc_laws.proofs.DoubleCollectSteps.{Leads, led_on, later, to_end, answered_later}
 
 gone_on : (o : Option Pair) (e : Pair) → GoesOn (Some e) o → (f : Pair) × (o ≡ Some f) × (e.0 ≤ f.0)
 gone_on None e g = absurd g

@@ -17,8 +17,8 @@ use Rattle.cc_messages.specs.declared.message.Message.TheVariants as message
 use Rattle.cc_ops.specs.Ops.{Ops, Phase, Storing, Querying, StoringBack, is_own, after_reply}
 use Rattle.cc_node.specs.Core.{Core, quorum, next}
 use Rattle.cc_laws.specs.Rounds.{awaits_views, awaits_acks, counts, with_peer}
-use Rattle.cc_laws.proofs.Pending.{ack_is, reply_is}
-use Rattle.cc_laws.proofs.Becoming.{of_reply}
+use Rattle.cc_laws.proofs.PendingRounds.{ack_is, reply_is}
+use Rattle.cc_laws.proofs.RoundResults.{of_reply}
 
 abbrev pub IsAckFrom : Core → Event → ℕ → Type 0
 IsAckFrom c e r = (n : ℕ) × (e ≡ event.Deliver r n (message.StoreAck c.ops.tag c.me))

@@ -19,13 +19,13 @@ use Rattle.cc_messages.specs.declared.output.Output.TheVariants as output
 use Rattle.cc_churn.specs.Churn.{Churn}
 use Rattle.cc_links.specs.Links.{Link, Links}
 use Rattle.cc_sessions.specs.Sessions.{Requests}
-use Rattle.cc_ops.specs.declared.pending.Pending.{Pending}
+use Rattle.cc_ops.specs.declared.pending_operation.Pending.{Pending}
 use Rattle.cc_ops.specs.Ops.{Ops, Idle, Storing, Querying, StoringBack, nothing_done}
 use Rattle.cc_node.specs.Core.{next, asked_of}
 use Rattle.cc_node.specs.Node.{Node, step}
-use Rattle.cc_node.specs.Opening.{Opening, fresh}
+use Rattle.cc_node.specs.Openings.{Opening, fresh}
 use Rattle.cc_node.specs.Refusals.{decides, decides_within}
-use Rattle.cc_laws.proofs.Inserting.{tables}
+use Rattle.cc_laws.proofs.MapInsertions.{tables}
 use Rattle.cc_laws.proofs.TwoNodes.{Takes, kept, none, one, both, view, wrote, saw, stored, acked, queried, replied, stores, collects}
 
 abbrev half : Fraction

@@ -13,12 +13,12 @@ use Rattle.cc_sessions.specs.Sessions.{last_request}
 use Rattle.cc_ops.specs.Ops.{pending}
 use Rattle.cc_node.specs.Core.{asked_of}
 use Rattle.cc_node.specs.Node.{Node, after}
-use Rattle.cc_node.specs.Opening.{Opening, IsOpening, fresh}
+use Rattle.cc_node.specs.Openings.{Opening, IsOpening, fresh}
 use Rattle.cc_laws.specs.Clusters.{Member, Cluster, Sent, Move, Accept, Receive}
 use Rattle.cc_laws.specs.Rounds.{Round, awaits_acks, awaits_views, ends_round, counts, peers_along}
 use Rattle.cc_laws.specs.Runs.{IsFreshCluster}
 use Rattle.cc_laws.specs.Regular.{IsAnswered, IsStored, IsAhead, RoundOf, HasAsked, SharedRounds, ShareNode}
-use Rattle.cc_laws.proofs.Inserting.{tables}
+use Rattle.cc_laws.proofs.MapInsertions.{tables}
 use Rattle.cc_laws.proofs.TwoNodes.{both, view, stored, acked, queried, replied, stores, collects}
 use Rattle.cc_laws.proofs.EntrantNodes as nodes
 use Rattle.cc_laws.proofs.EntrantNodes.{first_opening, entrant, entering, echo, joining, join_echo, stored_back, acked_back}

@@ -20,20 +20,20 @@ use Rattle.cc_site.specs.Moments.{Contents, Possible}
 use Rattle.cc_site.specs.Reads.{bytes_of}
 use Rattle.cc_site.specs.Runs.{EachMoment, OnlyNow, CountsNow, started, joined, weaker, now_has}
 use Rattle.cc_node.specs.Node.{Node, after, step, IsLawful}
-use Rattle.cc_sides.specs.Good.{IsGoodAt, RestsAt}
-use Rattle.cc_sides.specs.GoodLaws.{whole_good, good_other_way, good_for_more}
-use Rattle.cc_sides.specs.Sides.{StandsAt, Stands}
+use Rattle.cc_states.specs.Good.{IsGoodAt, RestsAt}
+use Rattle.cc_states.specs.GoodLaws.{whole_good, good_other_way, good_for_more}
+use Rattle.cc_states.specs.Sides.{StandsAt, Stands}
 use Rattle.cc_journal.specs.declared.entry.Entry.{Entry}
 use Rattle.cc_journal.specs.Batches.{AreLawful, events_in}
 use Rattle.cc_journal.specs.Journals.{Position, IsGood, RestsNow, IsGoodNow, KeepsGood, StaysGood}
 use Rattle.cc_flush.specs.Engine.{Engine}
-use Rattle.cc_flush.specs.Flushing.{LeadsTo, LeadsToOwed}
-use Rattle.cc_flush.specs.declared.formatting.FormatFault.{FormatFault}
-use Rattle.cc_laws.specs.declared.living.Stopped.{Stopped}
-use Rattle.cc_laws.specs.declared.living.Stopped.TheVariants.{Format}
-use Rattle.cc_flush.specs.Formatting.{IsNoneOrWhole}
-use Rattle.cc_laws.specs.Living.{IsOfFirstLife, LeavesLife, LeavesAll, LifeStops}
-use Rattle.cc_laws.proofs.Joining.{OneNode}
+use Rattle.cc_flush.specs.Commits.{LeadsTo, LeadsToOwed}
+use Rattle.cc_flush.specs.declared.format_sides.FormatFault.{FormatFault}
+use Rattle.cc_laws.specs.declared.first_life.Stopped.{Stopped}
+use Rattle.cc_laws.specs.declared.first_life.Stopped.TheVariants.{Format}
+use Rattle.cc_flush.specs.FormatSides.{IsNoneOrWhole}
+use Rattle.cc_laws.specs.FirstLife.{IsOfFirstLife, LeavesLife, LeavesAll, LifeStops}
+use Rattle.cc_laws.proofs.JoinedLives.{OneNode}
 
 pub batch_lawful : (n : Node) (entries : List Entry) → AreLawful n entries → IsLawful n (events_in entries)
 batch_lawful n [] lawful = tt

@@ -10,7 +10,7 @@ use Rattle.cc_messages.specs.declared.event.Event.TheVariants as event
 use Rattle.cc_messages.specs.declared.message.Message.TheVariants as message
 use Rattle.cc_node.specs.Core.{Core}
 use Rattle.cc_node.specs.Node.{after}
-use Rattle.cc_node.specs.Opening.{fresh}
+use Rattle.cc_node.specs.Openings.{fresh}
 use Rattle.cc_laws.specs.Clusters.{Member}
 use Rattle.cc_laws.specs.Rounds.{answers, lacks_one, counts, ends_round, with_peer, peers_along}
 use Rattle.cc_laws.specs.Regular.{released_events, RoundOf, Counted}

@@ -13,16 +13,16 @@ use Rattle.cc_views.specs.declared.value.Value.{Value}
 use Rattle.cc_messages.specs.declared.event.Event.{Event}
 use Rattle.cc_messages.specs.declared.output.Output.{Output}
 use Rattle.cc_node.specs.Node.{Node, after, line, IsLawful}
-use Rattle.cc_node.specs.Opening.{Opening, IsOpening, fresh}
+use Rattle.cc_node.specs.Openings.{Opening, IsOpening, fresh}
 use Rattle.cc_node.specs.Histories.{line-append, lawful_parts}
 use Rattle.cc_laws.specs.Shown.{in_output, in_event}
 use Rattle.cc_laws.specs.Written.{IsWriteOf}
 use Rattle.cc_laws.specs.Clusters.{Member, node_at}
 use Rattle.cc_laws.proofs.Lists.{all_rest, all_take, all_changed}
 use Rattle.cc_laws.proofs.ShownParts.{OfOutput}
-use Rattle.cc_laws.proofs.Showing.{ShowsOnly, all_shown, fresh_shows}
+use Rattle.cc_laws.proofs.ShownViews.{ShowsOnly, all_shown, fresh_shows}
 use Rattle.cc_laws.proofs.Rows.{AllRows, EventRows, rows_empty, rows_along}
-use Rattle.cc_laws.proofs.Writing.{fresh_writes}
+use Rattle.cc_laws.proofs.WritingAsks.{fresh_writes}
 
 pub record IsSound (q : ℕ) (m : Member) : Type 0 where
   pub opening : IsOpening m.opening

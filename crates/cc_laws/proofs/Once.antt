@@ -21,11 +21,11 @@ use Rattle.cc_messages.specs.declared.message.Message.{Message}
 use Rattle.cc_messages.specs.declared.message.Message.TheVariants as message
 use Rattle.cc_links.specs.Links.{Link, heard_from}
 use Rattle.cc_links.specs.LinkLaws.{LinkGoesOn}
-use Rattle.cc_ops.specs.declared.pending.Asked.{Asked}
+use Rattle.cc_ops.specs.declared.pending_operation.Asked.{Asked}
 use Rattle.cc_ops.specs.Ops.{Phase, Idle, Querying}
 use Rattle.cc_node.specs.Core.{Core, next}
 use Rattle.cc_node.specs.Node.{Node, step, after, IsLawful}
-use Rattle.cc_node.specs.Opening.{fresh}
+use Rattle.cc_node.specs.Openings.{fresh}
 use Rattle.cc_node.specs.Histories.{lawful_parts}
 use Rattle.cc_node.specs.Refusals.{decides}
 use Rattle.cc_node.proofs.LawfulLaws.{links_go_on, hears_now}
@@ -34,12 +34,12 @@ use Rattle.cc_laws.specs.Clusters.{Member, Cluster}
 use Rattle.cc_laws.specs.Regular.{released_events, RoundOf}
 use Rattle.cc_laws.specs.Rounds.{counts, ends_round, begins_anew, with_peer, peers_next, peers_along, peers_of}
 use Rattle.cc_laws.proofs.Members.{lawful_front}
-use Rattle.cc_laws.proofs.Clustering.{Holds, IsAt, one_at}
+use Rattle.cc_laws.proofs.ClusterSteps.{Holds, IsAt, one_at}
 use Rattle.cc_laws.proofs.Places.{front_more, at_once, Place}
 use Rattle.cc_laws.proofs.Says.{tag_after, BringsIn, PostSays, GoesTo}
-use Rattle.cc_laws.proofs.Pending.{HasAck, HasReply, Pends, core_push, pends}
+use Rattle.cc_laws.proofs.PendingRounds.{HasAck, HasReply, Pends, core_push, pends}
 use Rattle.cc_laws.proofs.CountedAnswers.{with_all, IsCountedFrom, counted_from}
-use Rattle.cc_laws.proofs.Knowing.{me_of, raised_at, Posted, posted, came_at, posted_by, came_before, came_last}
+use Rattle.cc_laws.proofs.Knowledge.{me_of, raised_at, Posted, posted, came_at, posted_by, came_before, came_last}
 use Rattle.cc_laws.proofs.Lists.{all_changed, at_some, either}
 use Rattle.cc_laws.proofs.Traces.{Traces}
 

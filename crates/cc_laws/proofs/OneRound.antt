@@ -14,19 +14,19 @@ use Rattle.cc_messages.specs.declared.event.Event.{Event}
 use Rattle.cc_messages.specs.declared.event.Event.TheVariants as event
 use Rattle.cc_messages.specs.declared.message.Message.{Message}
 use Rattle.cc_messages.specs.declared.message.Message.TheVariants as message
-use Rattle.cc_ops.specs.declared.pending.Asked.{Asked}
-use Rattle.cc_ops.specs.declared.pending.Pending.{Pending}
+use Rattle.cc_ops.specs.declared.pending_operation.Asked.{Asked}
+use Rattle.cc_ops.specs.declared.pending_operation.Pending.{Pending}
 use Rattle.cc_ops.specs.Ops.{Ops, Phase, Querying, Storing, StoringBack, is_idle, is_own, round_of, counted, begin_round, after_reply, after_ack}
 use Rattle.cc_ops.specs.Ops.{after_last, after_ask, after_message, anew, asked_in, pending}
 use Rattle.cc_ops.specs.OwnLaws.{round_line, round_pending, asked_again}
 use Rattle.cc_laws.proofs.AnewLaws.{awaited_again}
 use Rattle.cc_ops.specs.Rounds.{is_of, kind_of, picked, spared, first_round, line_behind}
-use Rattle.cc_ops.specs.Waiting.{has_session}
+use Rattle.cc_ops.specs.WaitingAsks.{has_session}
 use Rattle.cc_sessions.specs.Sessions.{last_request}
 use Rattle.cc_node.specs.Core.{Core, quorum, asked_of, asks_anew, anew_if, next}
 use Rattle.cc_node.specs.Lawful.{IsLawfulCore}
 use Rattle.cc_node.specs.Node.{Node, step, after, IsLawful}
-use Rattle.cc_node.specs.Opening.{fresh}
+use Rattle.cc_node.specs.Openings.{fresh}
 use Rattle.cc_node.specs.Histories.{lawful_parts}
 use Rattle.cc_node.specs.Refusals.{decides}
 use Rattle.cc_node.proofs.FreshLaws.{fresh_lawful, after_lawful}
@@ -34,10 +34,10 @@ use Rattle.cc_laws.specs.Clusters.{Member}
 use Rattle.cc_laws.specs.Regular.{RoundOf, Counted, phase_in, HasAsked, IsRoundFor}
 use Rattle.cc_laws.specs.Rounds.{awaits_views, awaits_acks, lacks_one, counts, ends_round, with_peer, peers_along}
 use Rattle.cc_laws.proofs.Lists.{either, all_both, all_at}
-use Rattle.cc_laws.proofs.Becoming.{stores_back, awaits_more, of_ack, of_reply}
+use Rattle.cc_laws.proofs.RoundResults.{stores_back, awaits_more, of_ack, of_reply}
 use Rattle.cc_laws.proofs.Members.{IsSound, lawful_front}
 use Rattle.cc_laws.proofs.Places.{at_same, at_before, at_behind, split_order, after_parts}
-use Rattle.cc_laws.proofs.Answering.{request_new, last_next, asked_none, asked_last}
+use Rattle.cc_laws.proofs.AnswerRounds.{request_new, last_next, asked_none, asked_last}
 
 abbrev IsApart : ℕ → ℕ → Asked → Type 0
 IsApart s r a = a.session ≡ s → a.request ≡ r → ⊥

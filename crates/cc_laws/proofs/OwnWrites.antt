@@ -11,9 +11,9 @@ use Rattle.cc_views.specs.Rows.{Pair}
 use Rattle.cc_views.specs.declared.value.Value.{Value}
 use Rattle.cc_messages.specs.declared.event.Event.{Event}
 use Rattle.cc_ops.specs.Ops.{nothing_stored}
-use Rattle.cc_ops.specs.Waiting.{writes_by, written_by}
+use Rattle.cc_ops.specs.WaitingAsks.{writes_by, written_by}
 use Rattle.cc_node.specs.Node.{Node, step, after, IsLawful}
-use Rattle.cc_node.specs.Opening.{Opening, IsOpening, fresh}
+use Rattle.cc_node.specs.Openings.{Opening, IsOpening, fresh}
 use Rattle.cc_node.specs.Histories.{lawful_parts}
 use Rattle.cc_node.specs.Writes.{begun_along}
 use Rattle.cc_node.proofs.CoreLaws.{own_number_along, own_value_along}
@@ -23,7 +23,7 @@ use Rattle.cc_laws.specs.Written.{IsWriteOf}
 use Rattle.cc_laws.proofs.OwnRows.{own_pair, HasOwnRow, own_step}
 use Rattle.cc_laws.proofs.Steps.{me_next}
 use Rattle.cc_laws.proofs.Written.{last_write}
-use Rattle.cc_laws.proofs.Writing.{begun_write, write_front, fresh_me, fresh_number, fresh_mine}
+use Rattle.cc_laws.proofs.WritingAsks.{begun_write, write_front, fresh_me, fresh_number, fresh_mine}
 
 own_along : (n : Node) (es : List Event) → HasOwnRow n.core.me n.core.ops → BringsOldRows n es → (j : ℕ)
     → HasOwnRow (after n (take j es)).core.me (after n (take j es)).core.ops

@@ -11,18 +11,18 @@ use Rattle.std.proofs.lemmas.List.Folds.{list_any-append}
 use Rattle.cc_views.specs.NatSets as set
 use Rattle.cc_views.specs.NatSets.{NatSet, contains-from_list, len-empty, len-insert, len_within}
 use Rattle.cc_changes.specs.Need.{needed}
-use Rattle.cc_node.specs.Opening.{fresh}
+use Rattle.cc_node.specs.Openings.{fresh}
 use Rattle.cc_laws.specs.Clusters.{Member, Cluster, Move}
 use Rattle.cc_laws.specs.Runs.{Run, IsFreshCluster}
 use Rattle.cc_laws.specs.Regular.{released_events, RoundOf, RoundsMeet}
 use Rattle.cc_laws.specs.Rounds.{peers_of}
 use Rattle.cc_laws.specs.Fixed.{count_of, IsFixedCluster, Stays}
 use Rattle.cc_laws.proofs.Lists.{all_both, all_take, contains_head, all_there}
-use Rattle.cc_laws.proofs.Clustering.{Holds, IsAt}
-use Rattle.cc_laws.proofs.Moving.{run_holds, fresh_holds}
+use Rattle.cc_laws.proofs.ClusterSteps.{Holds, IsAt}
+use Rattle.cc_laws.proofs.ClusterMoves.{run_holds, fresh_holds}
 use Rattle.cc_laws.proofs.Traces.{Traces, run_traces, fresh_traces}
 use Rattle.cc_laws.proofs.Once.{Apart, peers_apart, peers_there, any_holds}
-use Rattle.cc_laws.proofs.Staying.{IsQuiet}
+use Rattle.cc_laws.proofs.SteadyMembers.{IsQuiet}
 use Rattle.cc_laws.proofs.Steady.{member_knows, AreQuiet, run_steady, fresh_quiet, fresh_quorum, round_size}
 
 any_there : (x : ℕ) (xs : List ℕ) → list_any (nat_eq x) xs ≡ true → Contains xs x

@@ -21,12 +21,12 @@ use Rattle.cc_messages.specs.declared.event.Event.{Event}
 use Rattle.cc_messages.specs.declared.event.Event.TheVariants as event
 use Rattle.cc_objects.specs.Objects.{max_of, flag_of, set_of}
 use Rattle.cc_ops.specs.Commands.{is_writing, written}
-use Rattle.cc_ops.specs.declared.pending.Asked.{Asked}
+use Rattle.cc_ops.specs.declared.pending_operation.Asked.{Asked}
 use Rattle.cc_ops.specs.Ops.{StoringBack, nothing_stored, seen_in}
-use Rattle.cc_ops.specs.Waiting.{writes_by, written_by}
+use Rattle.cc_ops.specs.WaitingAsks.{writes_by, written_by}
 use Rattle.cc_node.specs.Core.{asked_of}
 use Rattle.cc_node.specs.Node.{after}
-use Rattle.cc_node.specs.Opening.{fresh}
+use Rattle.cc_node.specs.Openings.{fresh}
 use Rattle.cc_node.specs.Writes.{asked_along}
 use Rattle.cc_laws.specs.Clusters.{Member, Cluster, node_at}
 use Rattle.cc_laws.specs.Shown.{Shows, stored_back}
@@ -34,15 +34,15 @@ use Rattle.cc_laws.specs.Runs.{at_member, IsWrittenBy}
 use Rattle.cc_laws.specs.Written.{values_of, IsWriteOf}
 use Rattle.cc_laws.specs.Regular.{released_events, IsAnswered, IsWriteAsk, IsAhead}
 use Rattle.cc_laws.specs.ReadBack.{IsDone}
-use Rattle.cc_laws.proofs.Lasting.{IsStable, value_stays, value_there, max_lasts, flag_lasts, set_lasts, max_bounds, max_least, flag_there, flag_from}
-use Rattle.cc_laws.proofs.Lasting.{set_there, set_from}
-use Rattle.cc_laws.proofs.Agreeing.{occurring_rows}
-use Rattle.cc_laws.proofs.Clustering.{Holds, IsAt, one_at, GrownAt, grows_same}
+use Rattle.cc_laws.proofs.LastingWrites.{IsStable, value_stays, value_there, max_lasts, flag_lasts, set_lasts, max_bounds, max_least, flag_there, flag_from}
+use Rattle.cc_laws.proofs.LastingWrites.{set_there, set_from}
+use Rattle.cc_laws.proofs.Agreement.{occurring_rows}
+use Rattle.cc_laws.proofs.ClusterSteps.{Holds, IsAt, one_at, GrownAt, grows_same}
 use Rattle.cc_laws.proofs.Once.{contains_cases}
 use Rattle.cc_laws.proofs.Lists.{at_some}
 use Rattle.cc_laws.proofs.Regularity.{RoundsShare, Reading, some_and, h_end, reading_mid, reading_end, stores_seen, reads_in_turn, Course, grown}
 use Rattle.cc_laws.proofs.Traces.{place_later}
-use Rattle.cc_laws.proofs.Writing.{asked_both}
+use Rattle.cc_laws.proofs.WritingAsks.{asked_both}
 
 -- a front of what was released is a front of all
 front_at : (es front rest : List Event) (k : ℕ) → take k es ≡ front ++ rest → take (length front) es ≡ front

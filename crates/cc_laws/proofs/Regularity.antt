@@ -17,13 +17,13 @@ use Rattle.cc_messages.specs.declared.output.Output.TheVariants as output
 use Rattle.cc_views.specs.declared.value.Value.{Value}
 use Rattle.cc_messages.specs.declared.command.Command.{Command}
 use Rattle.cc_messages.specs.declared.command.Command.TheVariants as command
-use Rattle.cc_ops.specs.declared.pending.Pending.{Pending}
+use Rattle.cc_ops.specs.declared.pending_operation.Pending.{Pending}
 use Rattle.cc_ops.specs.Commands.{answer_of}
 use Rattle.cc_ops.specs.Ops.{Storing, StoringBack, pending as pending_asks}
 use Rattle.cc_sessions.specs.Sessions.{last_request}
 use Rattle.cc_node.specs.Core.{Core}
 use Rattle.cc_node.specs.Node.{Node, after, IsLawful}
-use Rattle.cc_node.specs.Opening.{Opening, fresh}
+use Rattle.cc_node.specs.Openings.{Opening, fresh}
 use Rattle.cc_node.specs.Histories.{lawful_parts}
 use Rattle.cc_node.proofs.FreshLaws.{fresh_lawful, after_lawful}
 use Rattle.cc_laws.specs.Clusters.{Member, Cluster, node_at, Move}
@@ -33,21 +33,21 @@ use Rattle.cc_laws.specs.Rounds.{awaits_acks, awaits_views, Round, peers_of}
 use Rattle.cc_laws.specs.Regular.{released_events, IsAnswered, IsWriteAsk, IsStored, IsAhead, HasAtLeast, SeesWrite, RoundOf, Counted, phase_in}
 use Rattle.cc_laws.specs.Regular.{HasAsked, IsRoundFor, RoundsMeet, SharedRounds, ShareNode}
 use Rattle.cc_laws.specs.Fixed.{IsFixedCluster, Stays}
-use Rattle.cc_laws.proofs.Agreeing.{all_written, one_value}
+use Rattle.cc_laws.proofs.Agreement.{all_written, one_value}
 use Rattle.cc_laws.proofs.Lists.{all_both, all_at}
 use Rattle.cc_laws.proofs.Quorums.{rounds_meet}
 use Rattle.cc_laws.proofs.CountedAnswers.{no_views}
 use Rattle.cc_laws.proofs.OneRound.{same_counted}
 use Rattle.cc_laws.proofs.Members.{IsSound, lawful_front}
-use Rattle.cc_laws.proofs.Clustering.{Holds, IsAt, one_at, Grows, GrownAt}
-use Rattle.cc_laws.proofs.Moving.{run_holds, fresh_holds}
+use Rattle.cc_laws.proofs.ClusterSteps.{Holds, IsAt, one_at, Grows, GrownAt}
+use Rattle.cc_laws.proofs.ClusterMoves.{run_holds, fresh_holds}
 use Rattle.cc_laws.proofs.Traces.{MadeBy, WasMade, Traces, run_traces, fresh_traces, run_grows, run_sent, place_later}
 use Rattle.cc_laws.proofs.Places.{parts_more, front_low}
 use Rattle.cc_laws.proofs.Says.{tag_after, stored_of}
-use Rattle.cc_laws.proofs.Pending.{HasAck, HasReply, Raised, least_more}
-use Rattle.cc_laws.proofs.Knowing.{either_front, Knows, store_known, reply_known}
-use Rattle.cc_laws.proofs.Answering.{last_after, Ended, ended, either_op, op_pends, op_writes, op_reads, asked_last, reads_view, writes_stored, StoredRound}
-use Rattle.cc_laws.proofs.Answering.{IsQueryFor, ReadRound, node_lawful, write_round, back_round, answered_read, number_reached}
+use Rattle.cc_laws.proofs.PendingRounds.{HasAck, HasReply, Raised, least_more}
+use Rattle.cc_laws.proofs.Knowledge.{either_front, Knows, store_known, reply_known}
+use Rattle.cc_laws.proofs.AnswerRounds.{last_after, Ended, ended, either_op, op_pends, op_writes, op_reads, asked_last, reads_view, writes_stored, StoredRound}
+use Rattle.cc_laws.proofs.AnswerRounds.{IsQueryFor, ReadRound, node_lawful, write_round, back_round, answered_read, number_reached}
 use Rattle.cc_objects.specs.Objects.{max_of, flag_of, set_of}
 
 -- a query of a request began where the node had released none such

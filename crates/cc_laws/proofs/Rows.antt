@@ -16,9 +16,9 @@ use Rattle.cc_views.specs.MergeLaws.{get-merge}
 use Rattle.cc_views.specs.declared.row.Row.{Row}
 use Rattle.cc_views.specs.declared.value.Value.{Value}
 use Rattle.cc_messages.specs.declared.event.Event.{Event}
-use Rattle.cc_ops.specs.declared.pending.Asked.{Asked}
+use Rattle.cc_ops.specs.declared.pending_operation.Asked.{Asked}
 use Rattle.cc_ops.specs.Ops.{Ops}
-use Rattle.cc_ops.specs.Waiting.{writes_by, written_by}
+use Rattle.cc_ops.specs.WaitingAsks.{writes_by, written_by}
 use Rattle.cc_node.specs.Core.{Core, begun, next}
 use Rattle.cc_node.specs.Node.{Node, step, after}
 use Rattle.cc_laws.specs.Shown.{in_event}

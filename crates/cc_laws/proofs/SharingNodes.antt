@@ -20,13 +20,13 @@ use Rattle.cc_messages.specs.declared.message.Message.{Message}
 use Rattle.cc_messages.specs.declared.output.Output.{Output}
 use Rattle.cc_messages.specs.declared.output.Output.TheVariants as output
 use Rattle.cc_sessions.specs.Sessions.{Requests}
-use Rattle.cc_ops.specs.declared.pending.Asked.{Asked}
-use Rattle.cc_ops.specs.declared.pending.Pending.{Pending}
+use Rattle.cc_ops.specs.declared.pending_operation.Asked.{Asked}
+use Rattle.cc_ops.specs.declared.pending_operation.Pending.{Pending}
 use Rattle.cc_ops.specs.Ops.{Ops, Phase, Idle, Storing, Querying, StoringBack}
 use Rattle.cc_node.specs.Core.{next, asked_of}
 use Rattle.cc_node.specs.Node.{Node, step}
 use Rattle.cc_node.specs.Refusals.{decides, decides_within}
-use Rattle.cc_laws.proofs.Inserting.{tables}
+use Rattle.cc_laws.proofs.MapInsertions.{tables}
 use Rattle.cc_laws.proofs.TwoNodes as earlier
 use Rattle.cc_laws.proofs.TwoNodes.{Takes, none, one, both, view, value, wrote, saw}
 use Rattle.cc_laws.proofs.SnapshotNodes.{queried, replied, stored, acked}

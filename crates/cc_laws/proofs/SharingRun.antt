@@ -25,7 +25,7 @@ use Rattle.cc_laws.specs.Regular.{released_events, IsStored, IsAhead, RoundOf, H
 use Rattle.cc_laws.specs.ReadBack.{IsDone}
 use Rattle.cc_laws.specs.DoubleCollects.{Moment, writes_of, LacksWrite, DoubleCollect}
 use Rattle.cc_laws.specs.Snapshots.{HasShare, AreOfOneRound, row_of_write, WriteBetween}
-use Rattle.cc_laws.proofs.Inserting.{tables}
+use Rattle.cc_laws.proofs.MapInsertions.{tables}
 use Rattle.cc_laws.proofs.TwoNodes.{both, view}
 use Rattle.cc_laws.proofs.Turns.{lived}
 use Rattle.cc_laws.proofs.Stages.{two, Stage, own_2, hear_1, hear_2, both_hold, each_holds}

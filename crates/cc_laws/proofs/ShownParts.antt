@@ -14,21 +14,21 @@ use Rattle.cc_messages.specs.declared.message.Message.{Message}
 use Rattle.cc_messages.specs.declared.message.Message.TheVariants as message
 use Rattle.cc_messages.specs.declared.output.Output.{Output}
 use Rattle.cc_churn.specs.Churn as churn
-use Rattle.cc_ops.specs.declared.pending.Asked.{Asked}
-use Rattle.cc_ops.specs.declared.pending.Reply.{Reply}
+use Rattle.cc_ops.specs.declared.pending_operation.Asked.{Asked}
+use Rattle.cc_ops.specs.declared.pending_operation.Reply.{Reply}
 use Rattle.cc_ops.specs.Commands.{is_writing, answer_of}
 use Rattle.cc_ops.specs.Ops as ops
 use Rattle.cc_ops.specs.Ops.{Ops, Phase, Storing, Querying, StoringBack, seen_in}
 use Rattle.cc_ops.specs.OwnLaws.{seen_again}
 use Rattle.cc_ops.specs.Rounds.{first_round, line_behind}
-use Rattle.cc_ops.specs.Waiting.{first_in}
+use Rattle.cc_ops.specs.WaitingAsks.{first_in}
 use Rattle.cc_node.specs.Core.{Core, quorum, asked_of, churned, churn_told, tells, asks_anew, anew_if, join_told, question_if, post_of_snapshot, post_to}
 use Rattle.cc_node.specs.Core.{begun, handled, post, replies}
 use Rattle.cc_node.proofs.ToldLaws.{anew_view}
 use Rattle.cc_node.specs.Node.{line}
 use Rattle.cc_laws.specs.Shown.{in_message, in_answer, in_output}
 use Rattle.cc_laws.proofs.Lists.{some_if, some_of, some_or, some_mapped, either}
-use Rattle.cc_laws.proofs.Becoming.{of_round, of_ack, of_reply}
+use Rattle.cc_laws.proofs.RoundResults.{of_round, of_ack, of_reply}
 
 module _ (Q : ViewMap → Type 0) where
   abbrev pub OfPhase : Phase → Type 0

@@ -21,14 +21,14 @@ use Rattle.cc_messages.specs.declared.message.Message.{Message}
 use Rattle.cc_messages.specs.declared.message.Message.TheVariants as message
 use Rattle.cc_messages.specs.declared.output.Output.TheVariants as output
 use Rattle.cc_sessions.specs.Sessions.{Requests}
-use Rattle.cc_ops.specs.declared.pending.Asked.{Asked}
-use Rattle.cc_ops.specs.declared.pending.Pending.{Pending}
+use Rattle.cc_ops.specs.declared.pending_operation.Asked.{Asked}
+use Rattle.cc_ops.specs.declared.pending_operation.Pending.{Pending}
 use Rattle.cc_ops.specs.Ops.{Ops, Phase, Idle, Storing, Querying, StoringBack, nothing_stored, nothing_done}
 use Rattle.cc_node.specs.Core.{next, asked_of}
 use Rattle.cc_node.specs.Node.{Node, step}
-use Rattle.cc_node.specs.Opening.{Opening, fresh}
+use Rattle.cc_node.specs.Openings.{Opening, fresh}
 use Rattle.cc_node.specs.Refusals.{decides, decides_within}
-use Rattle.cc_laws.proofs.Inserting.{tables}
+use Rattle.cc_laws.proofs.MapInsertions.{tables}
 use Rattle.cc_laws.proofs.TwoNodes.{Takes, opening_of, link_of, node_with, none, one, both}
 
 abbrev pub opening : ℕ → Opening

@@ -15,7 +15,7 @@ use Rattle.cc_messages.specs.declared.output.Output.TheVariants as output
 use Rattle.cc_objects.specs.Objects.{flag_of, set_of}
 use Rattle.cc_sessions.specs.Sessions.{last_request}
 use Rattle.cc_node.specs.Node.{Node}
-use Rattle.cc_node.specs.Opening.{IsOpening}
+use Rattle.cc_node.specs.Openings.{IsOpening}
 use Rattle.cc_laws.specs.Clusters.{Member, Cluster, Move}
 use Rattle.cc_laws.specs.Runs.{Run, IsFreshCluster}
 use Rattle.cc_laws.specs.Regular.{IsStored, IsAhead, RoundsMeet}
@@ -23,7 +23,7 @@ use Rattle.cc_laws.specs.ReadBack.{IsDone}
 use Rattle.cc_laws.specs.Fixed.{IsFixedMember, IsFixedCluster, Stays}
 use Rattle.cc_laws.specs.DoubleCollects.{Moment, writes_of, LacksWrite, DoubleCollect}
 use Rattle.cc_laws.specs.Snapshots.{HasShare, row_of_write, WriteBetween}
-use Rattle.cc_laws.proofs.Inserting.{tables}
+use Rattle.cc_laws.proofs.MapInsertions.{tables}
 use Rattle.cc_laws.proofs.TwoNodes.{both}
 use Rattle.cc_laws.proofs.Turns.{lived}
 use Rattle.cc_laws.proofs.Stages.{two, Stage, own_1, own_2, hear_1, hear_2, both_hold, fresh_two}

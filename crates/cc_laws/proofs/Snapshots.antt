@@ -10,8 +10,8 @@ use Rattle.cc_laws.specs.DoubleCollects.{Moment, LacksWrite, DoubleCollect, IsBe
 use Rattle.cc_laws.specs.Snapshots.{WriteBetween}
 use Rattle.cc_laws.proofs.Regularity.{Course, course, collects_share, store_shares}
 use Rattle.cc_laws.proofs.Traces.{run_sent}
-use Rattle.cc_laws.proofs.DoubleCollecting.{later, to_end, no_both, none_later, sees, in_turn}
-use Rattle.cc_laws.proofs.Linearizing.{linearized}
+use Rattle.cc_laws.proofs.DoubleCollectSteps.{later, to_end, no_both, none_later, sees, in_turn}
+use Rattle.cc_laws.proofs.Linearization.{linearized}
 
 has_seen : (d : Cluster) (v : ViewMap) (q n : ℕ) → SeesWrite d v q n → HasAtLeast v q n
 has_seen d v q n seen = subst (λ (o : Option Pair). IsSomeAnd o (λ e. n ≤ e.0)) (sym seen.3) seen.2

@@ -15,15 +15,15 @@ use Rattle.cc_messages.specs.declared.message.Message.{Message}
 use Rattle.cc_messages.specs.declared.output.Output.{Output}
 use Rattle.cc_messages.specs.declared.output.Output.TheVariants as output
 use Rattle.cc_node.specs.Node.{Node, after}
-use Rattle.cc_node.specs.Opening.{Opening, IsOpening, fresh}
+use Rattle.cc_node.specs.Openings.{Opening, IsOpening, fresh}
 use Rattle.cc_node.specs.Refusals.{decides}
 use Rattle.cc_laws.specs.Clusters.{Member, Cluster, Sent, IsOwn, Move, Accept, Receive, MovesBy, with_member, accepting}
 use Rattle.cc_laws.specs.Runs.{Run, IsFreshMember, IsFreshCluster}
-use Rattle.cc_laws.proofs.Inserting.{tables}
+use Rattle.cc_laws.proofs.MapInsertions.{tables}
 use Rattle.cc_laws.proofs.Regularity.{run_both}
 use Rattle.cc_laws.proofs.TwoNodes.{Takes}
 use Rattle.cc_laws.proofs.Turns.{lived, sent_by, Seat, turn, reached, turned, lost, forgotten}
-use Rattle.cc_laws.proofs.Clustering.{IsAt}
+use Rattle.cc_laws.proofs.ClusterSteps.{IsAt}
 
 abbrev pub two : Opening → Opening → List Event → List Event → List Sent → Cluster
 two o p es fs sent = record {

@@ -15,28 +15,28 @@ use Rattle.cc_messages.specs.declared.event.Event.TheVariants as event
 use Rattle.cc_messages.specs.declared.message.Message.{Message}
 use Rattle.cc_messages.specs.declared.message.Message.TheVariants as message
 use Rattle.cc_messages.specs.declared.output.Output.TheVariants as output
-use Rattle.cc_ops.specs.declared.pending.Asked.{Asked}
+use Rattle.cc_ops.specs.declared.pending_operation.Asked.{Asked}
 use Rattle.cc_churn.specs.Churn as churn
 use Rattle.cc_ops.specs.Rounds.{first_round, line_behind}
 use Rattle.cc_ops.specs.Ops.{Ops, Phase, Idle, Storing, Querying, StoringBack, is_idle, is_own, counted, merged, begin_round, with_begun, after_reply}
 use Rattle.cc_ops.specs.Ops.{after_last, after_ack, again}
 use Rattle.cc_node.specs.Core.{Core, quorum, asked_of, churn_told, asks_anew, anew_if, next, post}
 use Rattle.cc_node.specs.Node.{Node, step, after}
-use Rattle.cc_node.specs.Opening.{Opening, fresh}
+use Rattle.cc_node.specs.Openings.{Opening, fresh}
 use Rattle.cc_laws.specs.Clusters.{Member, Cluster, with_member, accepting, IsOwn, Move, Accept, Receive, Sync, Release, Resend, Crash, MovesBy}
 use Rattle.cc_laws.specs.Runs.{Run, IsFreshCluster}
 use Rattle.cc_laws.specs.Fixed.{count_of, IsFixedMember, IsFixedCluster, StaysBy, Stays}
 use Rattle.cc_laws.specs.Regular.{released_events}
 use Rattle.cc_laws.specs.Rounds.{need_in, Round, peers_of}
 use Rattle.cc_laws.specs.Progress.{round_under}
-use Rattle.cc_laws.proofs.Counting.{ended_is, round_enough}
+use Rattle.cc_laws.proofs.Counted.{ended_is, round_enough}
 use Rattle.cc_laws.proofs.Lists.{all_both, all_front, all_rest, all_take, at_some, all_at, either}
-use Rattle.cc_laws.proofs.Clustering.{Holds, IsAt, each_member}
-use Rattle.cc_laws.proofs.Moving.{move_holds, crashed, synced, releasing}
-use Rattle.cc_laws.proofs.Knowing.{posted}
-use Rattle.cc_laws.proofs.Staying.{KnowsFixed, IsOfRound, IsQuiet, quiet_post, fixed_next, fixed_along, fresh_fixed, quorum_next}
+use Rattle.cc_laws.proofs.ClusterSteps.{Holds, IsAt, each_member}
+use Rattle.cc_laws.proofs.ClusterMoves.{move_holds, crashed, synced, releasing}
+use Rattle.cc_laws.proofs.Knowledge.{posted}
+use Rattle.cc_laws.proofs.SteadyMembers.{KnowsFixed, IsOfRound, IsQuiet, quiet_post, fixed_next, fixed_along, fresh_fixed, quorum_next}
 use Rattle.cc_laws.proofs.Traces.{MadeBy, WasMade, Traces, move_traces}
-use Rattle.cc_laws.proofs.Becoming.{of_round, of_ack, of_reply}
+use Rattle.cc_laws.proofs.RoundResults.{of_round, of_ack, of_reply}
 
 -- ---- a cluster
 

@@ -10,18 +10,18 @@ use Rattle.cc_messages.specs.declared.event.Event.{Event}
 use Rattle.cc_messages.specs.declared.event.Event.TheVariants as event
 use Rattle.cc_messages.specs.declared.message.Message.{Message}
 use Rattle.cc_messages.specs.declared.message.Message.TheVariants as message
-use Rattle.cc_ops.specs.declared.pending.Asked.{Asked}
+use Rattle.cc_ops.specs.declared.pending_operation.Asked.{Asked}
 use Rattle.cc_ops.specs.Ops.{Ops, Phase, Storing, Querying, StoringBack, is_idle, is_last, is_own, counted, begin_round, with_begun, after_reply, after_last}
 use Rattle.cc_ops.specs.Ops.{after_ack, after_message, begun_in, begun_by}
 use Rattle.cc_ops.specs.OwnLaws.{IsRound, first_is_round, none_reads}
 use Rattle.cc_ops.specs.Rounds.{first_round, line_behind}
-use Rattle.cc_ops.specs.Waiting.{writes_by, written_by}
+use Rattle.cc_ops.specs.WaitingAsks.{writes_by, written_by}
 use Rattle.cc_churn.specs.Churn as churn
 use Rattle.cc_node.specs.Core.{Core, quorum, asked_of, churn_told, asks_anew, begun, next}
 use Rattle.cc_node.proofs.ToldLaws.{anew_view}
 use Rattle.cc_laws.specs.Shown.{in_message, in_event}
 use Rattle.cc_laws.proofs.Lists.{either}
-use Rattle.cc_laws.proofs.Becoming.{of_round, of_reply, of_begun}
+use Rattle.cc_laws.proofs.RoundResults.{of_round, of_reply, of_begun}
 
 -- the own row once asks have begun, under the number of the last write among them
 abbrev pub row_of : ℕ → Ops → List Asked → ViewMap

@@ -16,7 +16,7 @@ use Rattle.cc_messages.specs.declared.output.Output.{Output}
 use Rattle.cc_messages.specs.declared.output.Output.TheVariants as output
 use Rattle.cc_links.specs.Links.{Link, heard_from, add_all}
 use Rattle.cc_node.specs.Node.{after, line, HasOutput, MayBeOut}
-use Rattle.cc_node.specs.Opening.{Opening, ids_of, fresh}
+use Rattle.cc_node.specs.Openings.{Opening, ids_of, fresh}
 use Rattle.cc_node.specs.Histories.{line-append}
 use Rattle.cc_node.proofs.FreshLaws.{fresh_lawful}
 use Rattle.cc_node.proofs.LawfulLaws.{add_all_heard}
@@ -27,8 +27,8 @@ use Rattle.cc_laws.specs.Runs.{Run, IsFreshCluster}
 use Rattle.cc_laws.specs.Regular.{released_events}
 use Rattle.cc_laws.proofs.Lists.{all_both, all_take, all_changed, all_there, all_at}
 use Rattle.cc_laws.proofs.Members.{lawful_front, front_parts}
-use Rattle.cc_laws.proofs.Clustering.{Holds, IsAt, all_from, Grows, GrownAt, grows_same, member_grows, each_member}
-use Rattle.cc_laws.proofs.Moving.{move_holds, crashed, put_there, accept_grows, sync_grows, release_grows, crash_grows, synced, releasing}
+use Rattle.cc_laws.proofs.ClusterSteps.{Holds, IsAt, all_from, Grows, GrownAt, grows_same, member_grows, each_member}
+use Rattle.cc_laws.proofs.ClusterMoves.{move_holds, crashed, put_there, accept_grows, sync_grows, release_grows, crash_grows, synced, releasing}
 
 abbrev pub MadeBy : Cluster → ℕ → Output → Type 0
 MadeBy c q o = (m : Member) × IsAt c q m × Contains (line (fresh m.opening) (released_events m)) o

@@ -11,7 +11,7 @@ use Rattle.cc_messages.specs.declared.event.Event.{Event}
 use Rattle.cc_messages.specs.declared.output.Output.{Output}
 use Rattle.cc_node.specs.Core.{outputs}
 use Rattle.cc_node.specs.Node.{Node, step, after, line}
-use Rattle.cc_node.specs.Opening.{Opening, fresh}
+use Rattle.cc_node.specs.Openings.{Opening, fresh}
 use Rattle.cc_node.specs.Refusals.{decides}
 use Rattle.cc_laws.specs.Clusters.{Member, Cluster, Sent, Move, Sync, Release, Crash, MovesBy, with_member, with_sent, accepting, put_out}
 use Rattle.cc_laws.specs.Runs.{Run}

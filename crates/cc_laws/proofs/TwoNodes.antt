@@ -25,14 +25,14 @@ use Rattle.cc_messages.specs.declared.output.Output.{Output}
 use Rattle.cc_messages.specs.declared.output.Output.TheVariants as output
 use Rattle.cc_links.specs.Links.{Link}
 use Rattle.cc_sessions.specs.Sessions.{Requests}
-use Rattle.cc_ops.specs.declared.pending.Asked.{Asked}
-use Rattle.cc_ops.specs.declared.pending.Pending.{Pending}
+use Rattle.cc_ops.specs.declared.pending_operation.Asked.{Asked}
+use Rattle.cc_ops.specs.declared.pending_operation.Pending.{Pending}
 use Rattle.cc_ops.specs.Ops.{Ops, Phase, Idle, Storing, Querying, StoringBack, nothing_stored, nothing_done}
 use Rattle.cc_node.specs.Core.{next, outputs, asked_of}
 use Rattle.cc_node.specs.Node.{Node, step}
-use Rattle.cc_node.specs.Opening.{Opening, fresh}
+use Rattle.cc_node.specs.Openings.{Opening, fresh}
 use Rattle.cc_node.specs.Refusals.{decides, decides_within}
-use Rattle.cc_laws.proofs.Inserting.{tables}
+use Rattle.cc_laws.proofs.MapInsertions.{tables}
 
 pub record Takes (n : Node) (e : Event) (m : Node) (os : List Output) : Type 0 where
   pub taken : decides n.core e ≡ None

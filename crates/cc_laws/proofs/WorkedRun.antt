@@ -15,12 +15,12 @@ use Rattle.cc_messages.specs.declared.event.Event.TheVariants as event
 use Rattle.cc_messages.specs.declared.output.Output.TheVariants as output
 use Rattle.cc_sessions.specs.Sessions.{last_request}
 use Rattle.cc_node.specs.Node.{Node}
-use Rattle.cc_node.specs.Opening.{IsOpening}
+use Rattle.cc_node.specs.Openings.{IsOpening}
 use Rattle.cc_laws.specs.Clusters.{Member, Cluster, Sent, Move, Accept, Receive}
 use Rattle.cc_laws.specs.Runs.{IsFreshCluster}
 use Rattle.cc_laws.specs.Regular.{IsAnswered, IsStored, IsAhead}
 use Rattle.cc_laws.specs.Fixed.{IsFixedMember, IsFixedCluster, Stays}
-use Rattle.cc_laws.proofs.Inserting.{tables}
+use Rattle.cc_laws.proofs.MapInsertions.{tables}
 use Rattle.cc_laws.proofs.TwoNodes as nodes
 use Rattle.cc_laws.proofs.TwoNodes.{opening_of, both, view, stored, acked, queried, replied, snapshot, queried_anew, replied_anew}
 use Rattle.cc_laws.proofs.TwoNodes.{stored_back, acked_back, queried_next, stores, collects, waits}

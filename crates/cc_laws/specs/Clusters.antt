@@ -14,7 +14,7 @@ use Rattle.cc_messages.specs.declared.message.Message.{Message}
 use Rattle.cc_messages.specs.declared.output.Output.{Output}
 use Rattle.cc_messages.specs.declared.output.Output.TheVariants as output
 use Rattle.cc_node.specs.Node.{Node, after, line, HasOutput}
-use Rattle.cc_node.specs.Opening.{Opening, fresh}
+use Rattle.cc_node.specs.Openings.{Opening, fresh}
 use Rattle.cc_node.specs.Refusals.{decides}
 
 pub record Member : Type 0 where

@@ -15,7 +15,7 @@ use Rattle.std.specs.FinMap as table
 use Rattle.cc_views.specs.Rows.{ViewMap}
 use Rattle.cc_views.specs.declared.value.Value.{Value}
 use Rattle.cc_messages.specs.declared.answer.Answer.TheVariants as answer
-use Rattle.cc_ops.specs.Waiting.{writes_by}
+use Rattle.cc_ops.specs.WaitingAsks.{writes_by}
 use Rattle.cc_node.specs.Writes.{asked_along}
 use Rattle.cc_laws.specs.Clusters.{Member, Cluster, Move}
 use Rattle.cc_laws.specs.Runs.{Run, IsWrittenBy}

@@ -3,7 +3,7 @@ pub mod Orders
 pub mod Written
 pub mod Histories
 pub mod Lives
-pub mod Living
+pub mod FirstLife
 pub mod Clusters
 pub mod Runs
 pub mod Rounds

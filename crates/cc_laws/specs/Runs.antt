@@ -8,7 +8,7 @@ use Rattle.std.specs.List.{Contains}
 use Rattle.std.specs.FinMap as table
 use Rattle.cc_views.specs.Rows.{ViewMap}
 use Rattle.cc_views.specs.declared.value.Value.{Value}
-use Rattle.cc_node.specs.Opening.{IsOpening}
+use Rattle.cc_node.specs.Openings.{IsOpening}
 use Rattle.cc_laws.specs.Shown.{Shows, in_output}
 use Rattle.cc_laws.specs.Written.{IsWriteOf}
 use Rattle.cc_laws.specs.Clusters.{Member, Cluster, Sent, node_at, Move, MovesBy}

@@ -5,7 +5,7 @@
 use Rattle.std.specs.Prelude.{◌≡◌, ℕ, ◌+◌, List, [], ◌∷◌, Some, slice_get, if◌then◌else◌}
 use Rattle.cc_views.specs.declared.value.Value.{Value}
 use Rattle.cc_messages.specs.declared.event.Event.{Event}
-use Rattle.cc_ops.specs.declared.pending.Asked.{Asked}
+use Rattle.cc_ops.specs.declared.pending_operation.Asked.{Asked}
 use Rattle.cc_ops.specs.Commands.{is_writing, written}
 use Rattle.cc_ops.specs.Ops.{nothing_stored}
 use Rattle.cc_node.specs.Writes.{asked_along}

@@ -8,7 +8,7 @@ ghost use Rattle.cc_messages.specs.declared.event.Event.{Event};
 ghost use Rattle.cc_messages.specs.declared.output.Output.{Output};
 ghost use Rattle.cc_node.specs.Core.{Core, next};
 ghost use Rattle.cc_node.specs.Node.{Node, after, line, IsLawful};
-ghost use Rattle.cc_node.specs.Opening.{Opening, IsOpening, fresh};
+ghost use Rattle.cc_node.specs.Openings.{Opening, IsOpening, fresh};
 ghost use Rattle.cc_laws.specs.Shown.{Has};
 ghost use Rattle.cc_laws.specs.Orders.{IsFollowedBy, AreComparable};
 ghost use Rattle.cc_laws.specs.Written.{IsWriteOf};

@@ -4,9 +4,9 @@
 
 mod clusters;
 mod double_collects;
+mod first_life;
 mod histories;
 mod lives;
-mod living;
 mod regular;
 mod rounds;
 
@@ -15,11 +15,11 @@ pub use double_collects::{
     clients_of_a_round_take_snapshots, equal_collects_are_a_snapshot, readings_of_double_collects,
     shared_nodes_tell_double_collects, two_nodes_take_snapshots,
 };
+pub use first_life::{Stopped, live_once, live_once_in_memory};
 pub use histories::{one_line, outputs_have_events, views_follow};
 pub use lives::{
     crashes_end_lives, history_is_accepted, lives_hold, lives_join, moments_end_lives,
 };
-pub use living::{Stopped, live_once, live_once_in_memory};
 pub use regular::{
     an_entrant_shares_a_node, collects_are_regular, members_collect_regularly, objects_are_regular,
     quorums_meet, shared_nodes_tell, shared_nodes_tell_readings, two_nodes_collect,

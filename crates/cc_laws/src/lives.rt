@@ -12,15 +12,15 @@ ghost use Rattle.cc_site.specs.Moments.{Contents, Possible};
 ghost use Rattle.cc_site.specs.Runs.{EachMoment};
 ghost use Rattle.cc_node.specs.Node.{Node, after, IsLawful};
 ghost use Rattle.cc_node.specs.Lawful.{IsLawfulNode};
-ghost use Rattle.cc_node.specs.Opening.{Opening, IsOpening, fresh};
-ghost use Rattle.cc_sides.specs.Sides.{Stands};
+ghost use Rattle.cc_node.specs.Openings.{Opening, IsOpening, fresh};
+ghost use Rattle.cc_states.specs.Sides.{Stands};
 ghost use Rattle.cc_journal.specs.Journals.{Position, IsGood, IsGoodNow, RestsNow};
 ghost use Rattle.cc_laws.specs.Shown.{Has};
 ghost use Rattle.cc_laws.specs.Orders.{AreComparable};
 ghost use Rattle.cc_laws.specs.Written.{IsWriteOf};
 ghost use Rattle.cc_laws.specs.Histories.{IsViewOf, BringsOldRows};
 ghost use Rattle.cc_laws.specs.Lives.{Life, IsLifeOf, LivesFrom, IsSeen, IsHistoryOf, IsSubsequence, accepted_along, durable_along};
-ghost use Rattle.cc_laws.specs.Living.{life_left, LeavesAll};
+ghost use Rattle.cc_laws.specs.FirstLife.{life_left, LeavesAll};
 
 use cc_flush::one_node;
 use cc_site::Site;

@@ -4,7 +4,7 @@ ghost use Rattle.std.specs.Prelude.{◌≡◌, ◌↔◌, ◌⊎◌, ℕ, true, 
 ghost use Rattle.cc_messages.specs.declared.event.Event.{Event};
 ghost use Rattle.cc_node.specs.Core.{Core, next};
 ghost use Rattle.cc_node.specs.Node.{after};
-ghost use Rattle.cc_node.specs.Opening.{Opening, fresh};
+ghost use Rattle.cc_node.specs.Openings.{Opening, fresh};
 ghost use Rattle.cc_laws.specs.Progress.{GainsAnswer, BeginsAnew, EndsRound, IsFrom};
 ghost use Rattle.cc_laws.specs.Rounds.{answers_in, need_in, counts, ends_round, begins_anew, peers_along, Round, peers_of};
 

@@ -3,7 +3,7 @@ ghost use Rattle.std.specs.Prelude.{◌≡◌, ◌≤◌, false, IfOk, IfSome, o
 ghost use Rattle.std.specs.Vec.{vec_capacity};
 ghost use Rattle.std.specs.Option.{option_map_or};
 ghost use Rattle.std.specs.FinMap as table;
-ghost use Rattle.cc_views.specs.Ascending.{IsAscending};
+ghost use Rattle.cc_views.specs.AscendingLists.{IsAscending};
 ghost use Rattle.cc_views.specs.Limits.{known_limit};
 ghost use Rattle.cc_views.specs.NatSets as set;
 ghost use Rattle.cc_views.specs.Tables.{IsRising, IsPlaceOf, table_of};

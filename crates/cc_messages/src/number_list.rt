@@ -1,7 +1,7 @@
 //! Lists of numbers that stand for a set.
 
 ghost use Rattle.std.specs.Prelude.{◌≡◌, ◌≤◌, length, IfOk};
-ghost use Rattle.cc_views.specs.Ascending.{IsAscending};
+ghost use Rattle.cc_views.specs.AscendingLists.{IsAscending};
 ghost use Rattle.cc_views.specs.NatSets.{from_list, items};
 ghost use Rattle.cc_messages.specs.Limits.{list_limit};
 
@@ -17,7 +17,7 @@ pub struct NumberList {
 
 impl Model for NumberList {
     ghost use Rattle.std.specs.Prelude.{length, ◌≤◌};
-    ghost use Rattle.cc_views.specs.Ascending.{IsAscending};
+    ghost use Rattle.cc_views.specs.AscendingLists.{IsAscending};
     ghost use Rattle.cc_views.specs.NatSets.{NatSet, set_code, from_list};
     ghost use Rattle.cc_messages.specs.Limits.{list_limit};
 

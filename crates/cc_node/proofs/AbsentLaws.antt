@@ -23,7 +23,7 @@ use Rattle.cc_links.specs.LinkLaws.{lapse_is_ack, lapse_is_news}
 use Rattle.cc_ops.specs.Ops as ops
 use Rattle.cc_node.specs.Core.{Core, quorum, churned, told_if, churn_told, asks_anew, anew_if, ops_anew, next}
 use Rattle.cc_node.specs.Refusals.{decides, row_overruns}
-use Rattle.cc_node.proofs.Deciding.{ack_refused, last_one}
+use Rattle.cc_node.proofs.PartDecisions.{ack_refused, last_one}
 use Rattle.cc_node.proofs.LawfulLaws.{hears_now}
 use Rattle.cc_node.proofs.RefusalLaws.{takes_lapse}
 use Rattle.cc_node.proofs.ToldLaws.{not_told, not_anew}

@@ -21,9 +21,9 @@ use Rattle.cc_messages.specs.declared.output.Output.{Output}
 use Rattle.cc_messages.specs.declared.refusal.Refusal.{Refusal}
 use Rattle.cc_messages.specs.declared.refusal.Refusal.TheVariants as refusal
 use Rattle.cc_messages.specs.Refusals.{first_of}
-use Rattle.cc_ops.specs.declared.pending.Asked.{Asked}
+use Rattle.cc_ops.specs.declared.pending_operation.Asked.{Asked}
 use Rattle.cc_ops.specs.Commands.{finds_no_room}
-use Rattle.cc_ops.specs.Waiting.{written_by}
+use Rattle.cc_ops.specs.WaitingAsks.{written_by}
 use Rattle.cc_ops.specs.OwnLaws.{round_line}
 use Rattle.cc_ops.specs.Rounds.{first_round, line_behind}
 use Rattle.cc_ops.specs.RoundLaws.{no_round}
@@ -36,7 +36,7 @@ use Rattle.cc_node.specs.Node.{Node, step, after, line, keep, add, forget_asked,
 use Rattle.cc_node.specs.Refusals.{decides_within, nothing_to_ack, too_many_nodes, nothing_to_lapse, set_full, outbox_full, spent, any_overruns}
 use Rattle.cc_node.specs.OneAtATime.{acked_alone, ops_alone, quorum_told, next_alone, post_alone, outputs_alone, set_full_alone}
 use Rattle.cc_node.specs.OneAtATime.{outbox_full_alone, spent_alone, decides_alone, step_alone, after_alone, line_alone, IsLawfulAlone}
-use Rattle.cc_node.proofs.Deciding.{of_enter, of_entered, of_member, of_retire, of_number, of_range, of_request, of_share}
+use Rattle.cc_node.proofs.PartDecisions.{of_enter, of_entered, of_member, of_retire, of_number, of_range, of_request, of_share}
 use Rattle.cc_node.proofs.OrderLaws.{none_behind, busy_same, idle_within, none_waiting}
 use Rattle.cc_node.proofs.RefusalLaws.{free_within}
 use Rattle.cc_node.proofs.ToldLaws.{anew_line}

@@ -11,13 +11,13 @@ use Rattle.cc_messages.specs.declared.event.Event.{Event}
 use Rattle.cc_messages.specs.declared.event.Event.TheVariants as event
 use Rattle.cc_messages.specs.declared.message.Message.{Message}
 use Rattle.cc_messages.specs.declared.message.Message.TheVariants as message
-use Rattle.cc_ops.specs.declared.pending.Asked.{Asked}
+use Rattle.cc_ops.specs.declared.pending_operation.Asked.{Asked}
 use Rattle.cc_ops.specs.Commands.{is_writing}
 use Rattle.cc_ops.specs.Ops.{Ops, Phase, Storing, Querying, StoringBack, is_idle, begin_round, after_ask, after_reply, after_last, after_ack, after_message}
 use Rattle.cc_ops.specs.OwnLaws.{message_number, message_mine, ask_number, ask_mine}
 use Rattle.cc_ops.specs.Rounds.{first_round, line_behind}
-use Rattle.cc_ops.specs.Waiting.{writes_by, written_by}
-use Rattle.cc_ops.specs.WaitingLaws.{writes_both, written_both}
+use Rattle.cc_ops.specs.WaitingAsks.{writes_by, written_by}
+use Rattle.cc_ops.specs.WaitingAskLaws.{writes_both, written_both}
 use Rattle.cc_node.specs.Core.{Core, quorum, asked_of, asks_anew, begun, next}
 use Rattle.cc_node.specs.Node.{Node, step, after}
 use Rattle.cc_node.specs.Writes.{begun_along}

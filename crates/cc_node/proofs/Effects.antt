@@ -23,9 +23,9 @@ use Rattle.cc_links.specs.Links.{Links, add as add_peer, add_all, hear, ack, lap
 use Rattle.cc_links.specs.LinkLaws.{len_add_all}
 use Rattle.cc_ops.specs.Ops as ops
 use Rattle.cc_ops.specs.Commands.{finds_no_room}
-use Rattle.cc_ops.specs.declared.pending.Asked.{Asked}
+use Rattle.cc_ops.specs.declared.pending_operation.Asked.{Asked}
 use Rattle.cc_ops.specs.Refusals.{busy}
-use Rattle.cc_ops.specs.Waiting.{line_limit, written_by}
+use Rattle.cc_ops.specs.WaitingAsks.{line_limit, written_by}
 use Rattle.cc_sessions.specs.Sessions.{finds_no_room as finds_no_session}
 use Rattle.cc_messages.specs.declared.command.Command.{Command}
 use Rattle.cc_messages.specs.declared.event.Event.{Event}
@@ -39,7 +39,7 @@ use Rattle.cc_node.specs.Core.{replies, quorum, ids_of, lowest}
 use Rattle.cc_node.specs.Node.{Node, step, add, keep, forget_asked}
 use Rattle.cc_node.specs.Lawful.{IsLawfulCore, IsLawfulNode}
 use Rattle.cc_node.specs.Refusals.{decides}
-use Rattle.cc_node.proofs.Deciding.{posts_if_idle}
+use Rattle.cc_node.proofs.PartDecisions.{posts_if_idle}
 use Rattle.cc_node.proofs.KeptLaws.{posts_forget}
 use Rattle.cc_node.proofs.KnownLaws.{none_waits}
 use Rattle.cc_node.proofs.LawfulLaws.{next_core, quorum_fits, others_fit, step_lawful}

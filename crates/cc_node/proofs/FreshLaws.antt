@@ -19,7 +19,7 @@ use Rattle.cc_links.specs.LinkLaws.{add_all_links, contains-add_all, lowest_with
 use Rattle.cc_outbox.specs.OutboxLaws.{KeepsPosts, keeps_none}
 use Rattle.cc_node.specs.Node.{Node, step, after, IsLawful}
 use Rattle.cc_node.specs.Lawful.{IsLawfulNode}
-use Rattle.cc_node.specs.Opening.{Opening, IsOpening, ids_of, fresh}
+use Rattle.cc_node.specs.Openings.{Opening, IsOpening, ids_of, fresh}
 use Rattle.cc_node.proofs.KnownLaws.{same_number}
 use Rattle.cc_node.proofs.LawfulLaws.{step_lawful}
 

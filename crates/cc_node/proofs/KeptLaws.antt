@@ -19,10 +19,10 @@ use Rattle.cc_messages.specs.declared.message.Message.{Message}
 use Rattle.cc_ops.specs.Ops.{Ops, pending, unanswered}
 use Rattle.cc_ops.specs.OwnLaws.{AnswersRound, AreAnswered}
 use Rattle.cc_ops.specs.RoundLaws.{round_has}
-use Rattle.cc_ops.specs.Waiting.{has_session, AreApart}
-use Rattle.cc_ops.specs.WaitingLaws.{none_last}
-use Rattle.cc_ops.specs.declared.pending.Asked.{Asked}
-use Rattle.cc_ops.specs.declared.pending.Reply.{Reply}
+use Rattle.cc_ops.specs.WaitingAsks.{has_session, AreApart}
+use Rattle.cc_ops.specs.WaitingAskLaws.{none_last}
+use Rattle.cc_ops.specs.declared.pending_operation.Asked.{Asked}
+use Rattle.cc_ops.specs.declared.pending_operation.Reply.{Reply}
 use Rattle.cc_sessions.specs.Sessions.{Requests}
 use Rattle.cc_outbox.specs.Outbox as kept
 use Rattle.cc_outbox.specs.Outbox.{Outbox, post_limit, trim}

@@ -12,13 +12,13 @@ use Rattle.cc_views.specs.MapLaws.{all_insert, all_entries}
 use Rattle.cc_messages.specs.declared.event.Event.{Event}
 use Rattle.cc_messages.specs.declared.event.Event.TheVariants as event
 use Rattle.cc_messages.specs.declared.message.Message.{Message}
-use Rattle.cc_ops.specs.declared.pending.Asked.{Asked}
-use Rattle.cc_ops.specs.declared.pending.Reply.{Reply}
+use Rattle.cc_ops.specs.declared.pending_operation.Asked.{Asked}
+use Rattle.cc_ops.specs.declared.pending_operation.Reply.{Reply}
 use Rattle.cc_ops.specs.Ops as ops
 use Rattle.cc_ops.specs.Ops.{Ops}
 use Rattle.cc_ops.specs.OwnLaws.{AnswersRound, AreAnswered, message_answers}
 use Rattle.cc_ops.specs.RoundLaws.{has_both}
-use Rattle.cc_ops.specs.Waiting.{has_session, AreApart}
+use Rattle.cc_ops.specs.WaitingAsks.{has_session, AreApart}
 use Rattle.cc_links.specs.Links.{Link, Links, with_row, add_all, reach, ReachesWithin, LinksWithin}
 use Rattle.cc_links.specs.LinkLaws.{get-live, lowest_below, reaches_within, add_all_links}
 use Rattle.cc_outbox.specs.Outbox as kept

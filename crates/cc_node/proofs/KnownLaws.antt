@@ -38,11 +38,11 @@ use Rattle.cc_ops.specs.OwnLaws.{AnswersRound, Parts, round_line, round_unanswer
 use Rattle.cc_ops.specs.Rounds.{picked, spared, first_round, line_behind}
 use Rattle.cc_ops.specs.RoundLaws.{has_both, round_apart, behind_few, each_first, each_behind, picked_alike, picked_few}
 use Rattle.cc_ops.specs.Stages.{stage_of, WaitsBehind}
-use Rattle.cc_ops.specs.Waiting.{line_limit, has_session, AreApart}
-use Rattle.cc_ops.specs.WaitingLaws.{apart_last}
-use Rattle.cc_ops.specs.declared.pending.Asked.{Asked}
-use Rattle.cc_ops.specs.declared.pending.Pending.{Pending}
-use Rattle.cc_ops.specs.declared.pending.Reply.{Reply}
+use Rattle.cc_ops.specs.WaitingAsks.{line_limit, has_session, AreApart}
+use Rattle.cc_ops.specs.WaitingAskLaws.{apart_last}
+use Rattle.cc_ops.specs.declared.pending_operation.Asked.{Asked}
+use Rattle.cc_ops.specs.declared.pending_operation.Pending.{Pending}
+use Rattle.cc_ops.specs.declared.pending_operation.Reply.{Reply}
 use Rattle.cc_links.specs.Links.{Links}
 use Rattle.cc_sessions.specs.Sessions.{Requests}
 use Rattle.cc_node.specs.Core.{ids_of}

@@ -33,8 +33,8 @@ use Rattle.cc_ops.specs.Ops as ops
 use Rattle.cc_ops.specs.Ops.{Ops, Phase, Storing, Querying, StoringBack, unanswered, mine_at_last}
 use Rattle.cc_ops.specs.OwnLaws.{message_last, message_answers, ask_last, ask_unanswered}
 use Rattle.cc_ops.specs.Rounds.{first_round, line_behind}
-use Rattle.cc_ops.specs.WaitingLaws.{written_fits}
-use Rattle.cc_ops.specs.declared.pending.Asked.{Asked}
+use Rattle.cc_ops.specs.WaitingAskLaws.{written_fits}
+use Rattle.cc_ops.specs.declared.pending_operation.Asked.{Asked}
 use Rattle.cc_messages.specs.Ranges.{Range}
 use Rattle.cc_messages.specs.Shares.{IsAskShare}
 use Rattle.cc_messages.specs.ShareLaws.{is_share}

@@ -2,10 +2,10 @@ pub mod AbsentLaws
 pub mod AloneLaws
 pub mod Unaware
 pub mod CoreLaws
-pub mod Deciding
+pub mod PartDecisions
 pub mod Effects
 pub mod FreshLaws
-pub mod Hearing
+pub mod HeardPeers
 pub mod KeptLaws
 pub mod KeptOutputs
 pub mod KnownLaws
@@ -20,5 +20,5 @@ pub mod ShareLaws
 pub mod SkipLaws
 pub mod StandingLaws
 pub mod ToldLaws
-mod Restoring
+mod RestoredRows
 mod Phases

@@ -32,10 +32,10 @@ use Rattle.cc_ops.specs.Ops as ops
 use Rattle.cc_ops.specs.Ops.{Ops, unanswered}
 use Rattle.cc_ops.specs.OwnLaws.{AnswersRound, AreAnswered, message_answers, ask_unanswered}
 use Rattle.cc_ops.specs.RoundLaws.{has_both, round_has}
-use Rattle.cc_ops.specs.Waiting.{has_session, AreApart}
-use Rattle.cc_ops.specs.WaitingLaws.{none_last}
-use Rattle.cc_ops.specs.declared.pending.Asked.{Asked}
-use Rattle.cc_ops.specs.declared.pending.Reply.{Reply}
+use Rattle.cc_ops.specs.WaitingAsks.{has_session, AreApart}
+use Rattle.cc_ops.specs.WaitingAskLaws.{none_last}
+use Rattle.cc_ops.specs.declared.pending_operation.Asked.{Asked}
+use Rattle.cc_ops.specs.declared.pending_operation.Reply.{Reply}
 use Rattle.cc_links.specs.Links.{Link, Links, heard_from, live, IsLinkWithin}
 use Rattle.cc_links.specs.LinkLaws.{LinkGoesOn, get-live}
 use Rattle.cc_sessions.specs.Sessions.{Requests, last_request, is_repeat, is_stale}

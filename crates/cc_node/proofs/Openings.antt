@@ -11,7 +11,7 @@ use Rattle.cc_views.specs.NatSets as set
 use Rattle.cc_views.specs.NatSets.{len_within, contains-from_list}
 use Rattle.cc_links.specs.Links.{add, add_all}
 use Rattle.cc_links.specs.LinkLaws.{add_all-append, len_add_all}
-use Rattle.cc_node.specs.Opening.{Opening, ids_of}
+use Rattle.cc_node.specs.Openings.{Opening, ids_of}
 use Rattle.cc_node.proofs.FreshLaws.{known_listed}
 use Rattle.std.specs.Prelude.{IsTrue, slice_index_or}
 use Rattle.std.proofs.lemmas.List.Elements.{Contains-append_left, Contains-append_right, Contains-append_cases}

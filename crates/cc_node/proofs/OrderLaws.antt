@@ -14,16 +14,16 @@ use Rattle.cc_messages.specs.declared.event.Event.TheVariants as event
 use Rattle.cc_messages.specs.declared.refusal.Refusal.{Refusal}
 use Rattle.cc_messages.specs.declared.refusal.Refusal.TheVariants as refusal
 use Rattle.cc_messages.specs.Refusals.{first_of}
-use Rattle.cc_ops.specs.declared.pending.Asked.{Asked}
+use Rattle.cc_ops.specs.declared.pending_operation.Asked.{Asked}
 use Rattle.cc_ops.specs.Ops as ops
 use Rattle.cc_ops.specs.OwnLaws.{Parts, round_line, message_parts, ask_line}
 use Rattle.cc_ops.specs.Ops.{Ops}
 use Rattle.cc_ops.specs.Rounds.{of_kind, line_behind}
 use Rattle.cc_ops.specs.RoundLaws.{kind_both, round_kinds}
-use Rattle.cc_ops.specs.Waiting.{line_limit, has_session}
+use Rattle.cc_ops.specs.WaitingAsks.{line_limit, has_session}
 use Rattle.cc_node.specs.Core.{Core, quorum, asked_of, asks_anew, begun, next}
 use Rattle.cc_node.specs.Refusals.{decides, decides_within, busy, set_full, outbox_full, spent}
-use Rattle.cc_node.proofs.Deciding.{of_member, of_request}
+use Rattle.cc_node.proofs.PartDecisions.{of_member, of_request}
 use Rattle.cc_node.specs.Node.{Node, step, after, IsLawful, IsLawfulWithin}
 use Rattle.cc_node.specs.Writes.{asked_by, asked_along, begun_along}
 use Rattle.cc_node.specs.Lawful.{IsLawfulCore, IsLawfulNode}

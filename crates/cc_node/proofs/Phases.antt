@@ -12,8 +12,8 @@ use Rattle.cc_links.specs.Links.{Links}
 use Rattle.cc_ops.specs.Commands.{is_writing}
 use Rattle.cc_ops.specs.Ops.{Phase, Idle, Storing, Querying, StoringBack, seen_in}
 use Rattle.cc_ops.specs.Stages.{stage_of}
-use Rattle.cc_ops.specs.declared.pending.Asked.{Asked}
-use Rattle.cc_ops.specs.declared.pending.Pending.{Pending}
+use Rattle.cc_ops.specs.declared.pending_operation.Asked.{Asked}
+use Rattle.cc_ops.specs.declared.pending_operation.Pending.{Pending}
 use Rattle.cc_ops.specs.declared.stage.Stage.TheVariants as stage
 use Rattle.cc_sessions.specs.Sessions.{Requests}
 use Rattle.cc_node.specs.Lawful.{IsPendingIn, IsPhaseOf, IsBeside}

@@ -22,7 +22,7 @@ use Rattle.cc_messages.specs.declared.refusal.Refusal.TheVariants as refusal
 use Rattle.cc_messages.specs.Refusals.{first_of}
 use Rattle.cc_ops.specs.Commands.{finds_no_room}
 use Rattle.cc_ops.specs.Ops.{is_idle, pending, unanswered, mine_at_last}
-use Rattle.cc_ops.specs.Waiting.{line_limit, has_session}
+use Rattle.cc_ops.specs.WaitingAsks.{line_limit, has_session}
 use Rattle.cc_churn.specs.Churn.{has_left}
 use Rattle.cc_links.specs.Links.{heard_from, awaits_ack, awaits_any}
 use Rattle.cc_sessions.specs.Sessions as requests

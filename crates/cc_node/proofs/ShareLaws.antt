@@ -14,8 +14,8 @@ use Rattle.cc_messages.specs.declared.event.Event.TheVariants as event
 use Rattle.cc_messages.specs.declared.refusal.Refusal.{Refusal}
 use Rattle.cc_messages.specs.declared.refusal.Refusal.TheVariants as refusal
 use Rattle.cc_messages.specs.Refusals.{first_of}
-use Rattle.cc_ops.specs.declared.pending.Asked.{Asked}
-use Rattle.cc_ops.specs.declared.pending.Reply.{Reply}
+use Rattle.cc_ops.specs.declared.pending_operation.Asked.{Asked}
+use Rattle.cc_ops.specs.declared.pending_operation.Reply.{Reply}
 use Rattle.cc_ops.specs.Commands.{is_writing}
 use Rattle.cc_ops.specs.Ops as ops
 use Rattle.cc_ops.specs.Ops.{Ops, Phase, Idle, Storing, Querying}
@@ -28,7 +28,7 @@ use Rattle.cc_node.specs.Refusals.{decides, decides_within, same_share, busy_bey
 use Rattle.cc_node.specs.Rounds.{share_after, share_along, IsShareAlong}
 use Rattle.cc_node.specs.Writes.{asked_by, asked_along, begun_along}
 use Rattle.cc_node.specs.Lawful.{IsLawfulCore, IsLawfulNode}
-use Rattle.cc_node.proofs.Deciding.{of_entered, of_share}
+use Rattle.cc_node.proofs.PartDecisions.{of_entered, of_share}
 use Rattle.cc_node.proofs.KnownLaws.{none_waits, same_number}
 use Rattle.cc_node.proofs.LawfulLaws.{step_lawful}
 use Rattle.cc_node.proofs.ToldLaws.{anew_line}

@@ -24,15 +24,15 @@ use Rattle.cc_links.specs.LinkLaws.{all_known, hear_twice}
 use Rattle.cc_ops.specs.Ops as ops
 use Rattle.cc_ops.specs.Ops.{Ops, is_own}
 use Rattle.cc_ops.specs.Refusals.{passes}
-use Rattle.cc_ops.specs.declared.pending.Asked.{Asked}
-use Rattle.cc_ops.specs.declared.pending.Reply.{Reply}
+use Rattle.cc_ops.specs.declared.pending_operation.Asked.{Asked}
+use Rattle.cc_ops.specs.declared.pending_operation.Reply.{Reply}
 use Rattle.cc_node.specs.Core.{Core, quorum, ids_of, ack, post, handled, next, replies, outputs, lowest, send_ack, send_post, send_replies, skips}
 use Rattle.cc_node.specs.Node.{Node, step, keep, add as add_post}
 use Rattle.cc_node.specs.Refusals.{decides, decides_within, old, gap, gap_before, too_many_nodes, outbox_full, spent}
-use Rattle.cc_node.specs.Skipping.{single, numbers_from, numbers, skipped_in_turn, AreKnown}
+use Rattle.cc_node.specs.Skips.{single, numbers_from, numbers, skipped_in_turn, AreKnown}
 use Rattle.cc_outbox.specs.Outbox.{trim, post_limit}
 use Rattle.cc_node.proofs.AloneLaws.{behind}
-use Rattle.cc_node.proofs.Deciding.{of_entered}
+use Rattle.cc_node.proofs.PartDecisions.{of_entered}
 
 -- ---- what it makes of the parts
 

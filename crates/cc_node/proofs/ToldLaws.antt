@@ -24,8 +24,8 @@ use Rattle.cc_ops.specs.Ops as ops
 use Rattle.cc_ops.specs.Ops.{Ops, Phase, Idle, StoringBack, unanswered, mine_at_last}
 use Rattle.cc_ops.specs.OwnLaws.{asked_again}
 use Rattle.cc_ops.specs.Stages.{stage_of, WaitsBehind}
-use Rattle.cc_ops.specs.Waiting.{AreApart}
-use Rattle.cc_ops.specs.declared.pending.Asked.{Asked}
+use Rattle.cc_ops.specs.WaitingAsks.{AreApart}
+use Rattle.cc_ops.specs.declared.pending_operation.Asked.{Asked}
 use Rattle.cc_links.specs.Links.{Links}
 use Rattle.cc_sessions.specs.Sessions.{Requests}
 use Rattle.cc_node.specs.Core.{Core, told_if, anew_if, tells, asks_anew}

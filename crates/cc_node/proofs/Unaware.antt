@@ -16,7 +16,7 @@ use Rattle.cc_messages.specs.declared.message.Message.TheVariants as message
 use Rattle.cc_messages.specs.declared.refusal.Refusal.TheVariants as refusal
 use Rattle.cc_messages.specs.Refusals.{first_of}
 use Rattle.cc_churn.specs.Churn as churn
-use Rattle.cc_ops.specs.declared.pending.Asked.{Asked}
+use Rattle.cc_ops.specs.declared.pending_operation.Asked.{Asked}
 use Rattle.cc_ops.specs.Commands.{is_writing}
 use Rattle.cc_ops.specs.Ops.{Ops, Phase, Storing, Querying, StoringBack, is_last, is_own, with_begun, after_reply, first_post, anew}
 use Rattle.cc_outbox.specs.Outbox.{post_limit}
@@ -25,7 +25,7 @@ use Rattle.cc_node.specs.Refusals.{nothing_to_ack, too_many_nodes, nothing_to_la
 use Rattle.cc_node.specs.OneAtATime.{acked_alone, other_line, waiting, ops_alone, quorum_told, phase_alone, answer_alone, next_alone, post_alone, busy_alone}
 use Rattle.cc_node.specs.OneAtATime.{set_full_alone, outbox_full_alone, spent_alone, decides_alone}
 use Rattle.cc_node.proofs.AloneLaws.{behind}
-use Rattle.cc_node.proofs.Deciding.{of_enter, of_entered, of_member, of_retire, of_number, of_range, of_request, of_share}
+use Rattle.cc_node.proofs.PartDecisions.{of_enter, of_entered, of_member, of_retire, of_number, of_range, of_request, of_share}
 
 either_other : (l : List Asked) (b : Bool) (s t : Ops) → (if b then other_line l s else other_line l t) ≡ other_line l (if b then s else t)
 either_other l true s t = refl

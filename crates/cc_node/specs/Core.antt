@@ -24,8 +24,8 @@ use Rattle.cc_ops.specs.Ops as ops
 use Rattle.cc_links.specs.Links as links
 use Rattle.cc_links.specs.Links.{Link, Links}
 use Rattle.cc_sessions.specs.Sessions.{Requests}
-use Rattle.cc_ops.specs.declared.pending.Asked.{Asked}
-use Rattle.cc_ops.specs.declared.pending.Reply.{Reply}
+use Rattle.cc_ops.specs.declared.pending_operation.Asked.{Asked}
+use Rattle.cc_ops.specs.declared.pending_operation.Reply.{Reply}
 use Rattle.cc_node.specs.declared.made.LinkAck.{LinkAck}
 use Rattle.cc_node.specs.declared.made.Made.{Made}
 

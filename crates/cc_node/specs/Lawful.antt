@@ -15,11 +15,11 @@ use Rattle.cc_views.specs.NatSets.{IsWithin}
 use Rattle.cc_changes.specs.Need.{IsShare}
 use Rattle.cc_messages.specs.declared.answer.Answer.{Answer}
 use Rattle.cc_ops.specs.Commands.{is_writing}
-use Rattle.cc_ops.specs.declared.pending.Asked.{Asked}
-use Rattle.cc_ops.specs.declared.pending.Pending.{Pending}
+use Rattle.cc_ops.specs.declared.pending_operation.Asked.{Asked}
+use Rattle.cc_ops.specs.declared.pending_operation.Pending.{Pending}
 use Rattle.cc_ops.specs.Ops.{Ops, Phase, Idle, Storing, Querying, StoringBack, unanswered}
 use Rattle.cc_ops.specs.Stages.{stage_of, WaitsBehind, HasRoom}
-use Rattle.cc_ops.specs.Waiting.{line_limit, has_session, AreApart}
+use Rattle.cc_ops.specs.WaitingAsks.{line_limit, has_session, AreApart}
 use Rattle.cc_links.specs.Links.{Links, LinksWithin}
 use Rattle.cc_sessions.specs.Sessions.{Requests}
 use Rattle.cc_views.specs.Limits.{counter_limit, known_limit, session_limit}

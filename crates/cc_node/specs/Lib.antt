@@ -4,12 +4,12 @@ pub mod Node
 pub mod OneAtATime
 pub mod Rounds
 pub mod Lawful
-pub mod Opening
+pub mod Openings
 pub mod OpeningRules
 pub mod Codes
 pub mod Writes
 pub mod Known
-pub mod Skipping
+pub mod Skips
 pub mod Lines
 pub mod Histories
 pub mod Parts

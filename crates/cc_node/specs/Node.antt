@@ -15,7 +15,7 @@ use Rattle.cc_messages.specs.declared.output.Output.TheVariants as output
 use Rattle.cc_links.specs.Links.{Link}
 use Rattle.cc_outbox.specs.Outbox as kept
 use Rattle.cc_outbox.specs.Outbox.{Outbox, trim, forget}
-use Rattle.cc_ops.specs.declared.pending.Reply.{Reply}
+use Rattle.cc_ops.specs.declared.pending_operation.Reply.{Reply}
 use Rattle.cc_node.specs.Core.{Core, next, post, replies, outputs, lowest, live_links}
 use Rattle.cc_node.specs.Refusals.{decides, decides_within}
 

@@ -8,7 +8,7 @@ use Rattle.std.specs.List.Sorted.{IsStrictlyIncreasing}
 use Rattle.cc_views.specs.Limits.{known_limit}
 use Rattle.cc_views.specs.NatSets as set
 use Rattle.cc_changes.specs.Need.{IsShare}
-use Rattle.cc_node.specs.Opening.{Opening, ids_of}
+use Rattle.cc_node.specs.Openings.{Opening, ids_of}
 use Rattle.cc_messages.specs.Shares.{share_limit}
 use Rattle.cc_node.specs.declared.opening.OpeningRule.{OpeningRule}
 use Rattle.cc_node.specs.declared.opening.OpeningRule.TheVariants as rule

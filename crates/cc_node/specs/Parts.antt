@@ -8,7 +8,7 @@ use Rattle.std.specs.Option.{option_map_or}
 use Rattle.std.specs.FinMap as table
 use Rattle.cc_views.specs.Limits.{counter_limit}
 use Rattle.cc_links.specs.Links.{Link}
-use Rattle.cc_ops.specs.declared.pending.Asked.{Asked}
+use Rattle.cc_ops.specs.declared.pending_operation.Asked.{Asked}
 use Rattle.cc_sessions.specs.Sessions.{Requests}
 use Rattle.cc_node.specs.Core.{Core}
 use Rattle.cc_node.specs.declared.core_parts.CoreParts.{CoreParts}

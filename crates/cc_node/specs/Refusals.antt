@@ -20,7 +20,7 @@ use Rattle.cc_churn.specs.Churn as churn
 use Rattle.cc_churn.specs.Refusals as coming
 use Rattle.cc_ops.specs.Refusals as pending
 use Rattle.cc_ops.specs.Refusals.{passes}
-use Rattle.cc_ops.specs.Waiting.{line_limit}
+use Rattle.cc_ops.specs.WaitingAsks.{line_limit}
 use Rattle.cc_links.specs.Links as links
 use Rattle.cc_outbox.specs.Outbox.{post_limit}
 use Rattle.cc_sessions.specs.Sessions as sessions

@@ -19,18 +19,18 @@ ghost use Rattle.cc_messages.specs.declared.refusal.Refusal.TheVariants as refus
 ghost use Rattle.cc_messages.specs.Shares.{IsAskShare};
 ghost use Rattle.cc_ops.specs.Ops.{anew, merged, after_message, with_share};
 ghost use Rattle.cc_messages.specs.declared.output.Output.{Output};
-ghost use Rattle.cc_ops.specs.declared.pending.Asked.{Asked};
+ghost use Rattle.cc_ops.specs.declared.pending_operation.Asked.{Asked};
 ghost use Rattle.cc_ops.specs.Rounds.{first_round, line_behind, of_kind, IsAt, ComesOn};
-ghost use Rattle.cc_ops.specs.Waiting.{writes_by, written_by};
+ghost use Rattle.cc_ops.specs.WaitingAsks.{writes_by, written_by};
 ghost use Rattle.cc_node.specs.Core.{Core, quorum, churned, churn_told, asks_anew, ops_anew, begun, ids_of, replies, outputs, next};
-ghost use Rattle.cc_node.specs.Skipping.{single, numbers, skipped_in_turn, AreKnown};
+ghost use Rattle.cc_node.specs.Skips.{single, numbers, skipped_in_turn, AreKnown};
 ghost use Rattle.cc_node.specs.Node.{Node, step, after, line, HasOutput, MayBeOut, IsLawful, IsLawfulWithin};
 ghost use Rattle.cc_node.specs.OneAtATime.{waiting, decides_alone, next_alone, post_alone, step_alone, after_alone};
 ghost use Rattle.cc_node.specs.OneAtATime.{line_alone, IsLawfulAlone};
 ghost use Rattle.cc_node.specs.Refusals.{decides, decides_within, row_overruns, spent};
 ghost use Rattle.cc_node.specs.Rounds.{share_along, IsShareAlong};
 ghost use Rattle.cc_node.specs.Lawful.{IsLawfulCore, IsLawfulNode};
-ghost use Rattle.cc_node.specs.Opening.{Opening, IsOpening, fresh};
+ghost use Rattle.cc_node.specs.Openings.{Opening, IsOpening, fresh};
 ghost use Rattle.cc_node.specs.Lines.{Follows};
 ghost use Rattle.cc_node.specs.Writes.{asked_along, begun_along};
 

@@ -1,7 +1,7 @@
 //! The state of a node, and what each event makes of it.
 #![tactic(auto)]
 
-mod applying;
+mod apply;
 mod core_parts;
 mod decisions;
 mod laws;

@@ -8,14 +8,14 @@ ghost use Rattle.cc_churn.specs.Churn as churn;
 ghost use Rattle.cc_links.specs.Links as links;
 ghost use Rattle.cc_ops.specs.Ops.{unanswered};
 ghost use Rattle.cc_ops.specs.Stages.{stage_of};
-ghost use Rattle.cc_ops.specs.Waiting.{has_session};
+ghost use Rattle.cc_ops.specs.WaitingAsks.{has_session};
 ghost use Rattle.cc_outbox.specs.Outbox.{post_limit};
 ghost use Rattle.cc_outbox.specs.OutboxLaws.{KeepsPosts};
 ghost use Rattle.cc_node.specs.declared.opening.Fresh.TheVariants as faults;
 ghost use Rattle.cc_node.specs.Core as machine;
 ghost use Rattle.cc_node.specs.Lawful.{IsLawfulCore, IsLawfulNode, KeepsAnswers};
 ghost use Rattle.cc_node.specs.Node.{step, add, keep, forget_asked};
-ghost use Rattle.cc_node.specs.Opening.{told, fresh, IsOpening};
+ghost use Rattle.cc_node.specs.Openings.{told, fresh, IsOpening};
 ghost use Rattle.cc_node.specs.Parts.{core_of};
 ghost use Rattle.cc_node.specs.Refusals.{decides};
 

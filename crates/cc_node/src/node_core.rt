@@ -8,7 +8,7 @@ ghost use Rattle.cc_links.specs.Rows.{rows_of};
 ghost use Rattle.cc_ops.specs.Stages.{stage_of};
 ghost use Rattle.cc_node.specs.Core as machine;
 ghost use Rattle.cc_node.specs.Lawful.{IsLawfulCore};
-ghost use Rattle.cc_node.specs.Opening.{told, fresh, IsOpening};
+ghost use Rattle.cc_node.specs.Openings.{told, fresh, IsOpening};
 ghost use Rattle.cc_node.specs.Parts.{core_of};
 
 use crate::core_parts::CoreParts;

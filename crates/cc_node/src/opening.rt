@@ -7,7 +7,7 @@ ghost use Rattle.std.specs.FinMap as table;
 ghost use Rattle.cc_views.specs.Limits.{known_limit};
 ghost use Rattle.cc_views.specs.NatSets as set;
 ghost use Rattle.cc_links.specs.Links as links;
-ghost use Rattle.cc_node.specs.Opening.{told, ids_of, IsOpening};
+ghost use Rattle.cc_node.specs.Openings.{told, ids_of, IsOpening};
 ghost use Rattle.cc_node.specs.OpeningRules.{Breaks, KeepsEarlier};
 ghost use Rattle.cc_node.specs.declared.opening.Fresh.TheVariants as faults;
 

@@ -15,7 +15,7 @@ use Rattle.std.proofs.lemmas.Bool.{eqb-true}
 use Rattle.std.proofs.lemmas.Map.Keys.{IsStrictlyIncreasing-dedup}
 use Rattle.std.proofs.lemmas.Map.Views.{Contains-from_any, list_any-from_Contains}
 use Rattle.cc_views.specs.declared.row.Row.{Row}
-use Rattle.cc_views.specs.Ascending.{IsAscending}
+use Rattle.cc_views.specs.AscendingLists.{IsAscending}
 use Rattle.cc_views.specs.NatSets.{contains, from_list, items, contains-empty, contains-from_list, contains-keys, contains-union, same_ids}
 use Rattle.cc_views.specs.NatLists.{items-from_list}
 use Rattle.cc_views.specs.Rows.{ViewMap, row_of, rows_of}

@@ -1,7 +1,7 @@
 //! What a reading command finds in a view: one slot over all its rows (CCC, max register, abort flag and set).
 ghost use Rattle.std.specs.Prelude.{◌≡◌, ◌*◌, ◌≤◌, map, max, length, IfOk};
 ghost use Rattle.std.specs.List.{flat_map, list_any, reduce};
-ghost use Rattle.cc_views.specs.Ascending.{IsAscending};
+ghost use Rattle.cc_views.specs.AscendingLists.{IsAscending};
 ghost use Rattle.cc_views.specs.NatSets.{items};
 ghost use Rattle.cc_objects.specs.Objects as objects;
 

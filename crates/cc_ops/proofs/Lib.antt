@@ -1,3 +1,3 @@
 mod Rooms
-mod Telling
+mod ToldAnswers
 mod AnewLaws

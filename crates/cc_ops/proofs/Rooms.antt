@@ -14,7 +14,7 @@ use Rattle.cc_views.specs.Rows.{ViewMap, single}
 use Rattle.cc_views.specs.Merge.{merge}
 use Rattle.cc_views.specs.declared.value.Value.{Value}
 use Rattle.cc_messages.specs.declared.command.Command.{Command}
-use Rattle.cc_ops.specs.declared.pending.Asked.{Asked}
+use Rattle.cc_ops.specs.declared.pending_operation.Asked.{Asked}
 use Rattle.cc_ops.specs.declared.stage.Stage.{Stage}
 use Rattle.cc_ops.specs.declared.stage.Stage.TheVariants as stage
 use Rattle.cc_ops.specs.Commands.{is_writing, written, finds_no_room}
@@ -25,8 +25,8 @@ use Rattle.cc_ops.specs.Ops.{with_own_row, with_written, begin_round, after_last
 use Rattle.cc_ops.specs.Rounds.{picked, spared, first_round, line_behind}
 use Rattle.cc_ops.specs.RoundLaws.{round_written, behind_within}
 use Rattle.cc_ops.specs.Stages.{phase_of, WaitsBehind, HasRoom}
-use Rattle.cc_ops.specs.Waiting.{first_in, writes_by, written_by}
-use Rattle.cc_ops.specs.WaitingLaws.{written_last, written_both, written_fits, first_room}
+use Rattle.cc_ops.specs.WaitingAsks.{first_in, writes_by, written_by}
+use Rattle.cc_ops.specs.WaitingAskLaws.{written_last, written_both, written_fits, first_room}
 
 pub none_waits : (at : Stage) (seen : ViewMap) (line : List Asked) → is_idle (phase_of at seen) ≡ true → WaitsBehind at line → line ≡ []
 none_waits stage.Idle seen line idle h = h

@@ -5,12 +5,12 @@ use Rattle.cc_views.specs.Rows.{ViewMap, view_code, value_code}
 use Rattle.cc_views.specs.declared.value.Value.{Value}
 use Rattle.std.specs.FinMap as map
 use Rattle.cc_messages.specs.declared.command.Command.TheVariants as command
-use Rattle.cc_ops.specs.declared.pending.Asked.{Asked}
-use Rattle.cc_ops.specs.declared.pending.Pending.{Pending}
-use Rattle.cc_ops.specs.declared.pending.Reply.{Reply}
-use Rattle.cc_ops.specs.contracts.pending.Asked as asked
-use Rattle.cc_ops.specs.contracts.pending.Pending as pending
-use Rattle.cc_ops.specs.contracts.pending.Reply as reply
+use Rattle.cc_ops.specs.declared.pending_operation.Asked.{Asked}
+use Rattle.cc_ops.specs.declared.pending_operation.Pending.{Pending}
+use Rattle.cc_ops.specs.declared.pending_operation.Reply.{Reply}
+use Rattle.cc_ops.specs.contracts.pending_operation.Asked as asked
+use Rattle.cc_ops.specs.contracts.pending_operation.Pending as pending
+use Rattle.cc_ops.specs.contracts.pending_operation.Reply as reply
 use Rattle.cc_ops.specs.Ops.{Phase, Idle, Storing, Querying, StoringBack, Ops}
 
 abbrev none_pending : Pending

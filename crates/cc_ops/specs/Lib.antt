@@ -1,10 +1,10 @@
 pub mod Commands
-pub mod Waiting
+pub mod WaitingAsks
 pub mod Rounds
 pub mod Ops
 pub mod Codes
 pub mod Stages
-pub mod WaitingLaws
+pub mod WaitingAskLaws
 pub mod RoundLaws
 pub mod OwnLaws
 pub mod Refusals

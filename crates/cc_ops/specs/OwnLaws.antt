@@ -15,14 +15,14 @@ use Rattle.cc_views.specs.Rows.{ViewMap}
 use Rattle.cc_views.specs.Merge.{merge}
 use Rattle.cc_messages.specs.declared.message.Message.{Message}
 use Rattle.cc_messages.specs.declared.message.Message.TheVariants as message
-use Rattle.cc_ops.specs.declared.pending.Asked.{Asked}
-use Rattle.cc_ops.specs.declared.pending.Reply.{Reply}
+use Rattle.cc_ops.specs.declared.pending_operation.Asked.{Asked}
+use Rattle.cc_ops.specs.declared.pending_operation.Reply.{Reply}
 use Rattle.cc_ops.specs.Commands.{is_writing, written}
 use Rattle.cc_ops.specs.Rounds.{picked, first_round, line_behind}
 use Rattle.cc_ops.specs.RoundLaws.{none_write, round_written}
-use Rattle.cc_ops.specs.Waiting.{writes_by, written_by}
-pub use Rattle.cc_ops.specs.WaitingLaws.{reading_leaves}
-use Rattle.cc_ops.specs.WaitingLaws.{written_last, written_both, no_writes}
+use Rattle.cc_ops.specs.WaitingAsks.{writes_by, written_by}
+pub use Rattle.cc_ops.specs.WaitingAskLaws.{reading_leaves}
+use Rattle.cc_ops.specs.WaitingAskLaws.{written_last, written_both, no_writes}
 use Rattle.cc_ops.specs.Ops.{Ops, Phase, Idle, Storing, Querying, StoringBack, is_idle, seen_in, round_of, counted, is_last, is_own, merged}
 use Rattle.cc_ops.specs.Ops.{next_round, again, begin_round, with_own_row, with_written, after_ask, after_reply, after_last, after_ack}
 use Rattle.cc_ops.specs.Ops.{after_message, begun_by_ask, begun_in, begun_by, told, replies_in, replies_of, asked_in, pending, unanswered}

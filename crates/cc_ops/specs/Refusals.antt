@@ -10,7 +10,7 @@ use Rattle.cc_messages.specs.declared.refusal.Refusal.{Refusal}
 use Rattle.cc_messages.specs.declared.refusal.Refusal.TheVariants as refusal
 use Rattle.cc_ops.specs.Commands.{finds_no_room}
 use Rattle.cc_ops.specs.Ops.{Ops, is_idle, pending, unanswered, mine_at_last}
-use Rattle.cc_ops.specs.Waiting.{has_session}
+use Rattle.cc_ops.specs.WaitingAsks.{has_session}
 
 -- whether the own number, which a round raises by the number of its writes, would be raised past its limit
 abbrev pub passes : ℕ → ℕ → Bool

@@ -13,11 +13,11 @@ use Rattle.std.proofs.Common.{sym, ap, arith, inl, inr, ◌∙◌}
 use Rattle.std.specs.List.{AllByRecursion}
 use Rattle.std.proofs.lemmas.Bool.{or_parts, eqb-false, ne_eqb}
 use Rattle.cc_views.specs.declared.value.Value.{Value}
-use Rattle.cc_ops.specs.declared.pending.Asked.{Asked}
+use Rattle.cc_ops.specs.declared.pending_operation.Asked.{Asked}
 use Rattle.cc_ops.specs.Commands.{is_writing, written}
 use Rattle.cc_ops.specs.Rounds.{is_of, picked, spared, first_round, line_behind, of_kind, IsAt, ComesOn}
-use Rattle.cc_ops.specs.Waiting.{has_session, AreApart, writes_by, written_by}
-use Rattle.cc_ops.specs.WaitingLaws.{reading_leaves, all_within, written_within}
+use Rattle.cc_ops.specs.WaitingAsks.{has_session, AreApart, writes_by, written_by}
+use Rattle.cc_ops.specs.WaitingAskLaws.{reading_leaves, all_within, written_within}
 use Rattle.cc_views.specs.NatSets.{IsWithin, contains}
 
 pub one_at_a_time : (a : Asked) (line : List Asked) → (first_round 1 (a ∷ line) ≡ a ∷ []) × (line_behind 1 (a ∷ line) ≡ line)

@@ -5,7 +5,7 @@
 --     of_kind                     all of a kind, in their order
 --     IsAt n ask asks             n others stand before the ask;  ComesOn: it begins, or fewer do than did
 use Rattle.std.specs.Prelude.{◌≡◌, ℕ, zero, suc, ◌<◌, ◌⊎◌, Bool, true, false, not, List, [], ◌∷◌, if◌then◌else◌}
-use Rattle.cc_ops.specs.declared.pending.Asked.{Asked}
+use Rattle.cc_ops.specs.declared.pending_operation.Asked.{Asked}
 use Rattle.cc_ops.specs.Commands.{is_writing}
 
 abbrev pub kind_of : Asked → Bool

@@ -8,11 +8,11 @@ use Rattle.cc_views.specs.Limits.{counter_limit, set_limit}
 use Rattle.cc_views.specs.NatSets as set
 use Rattle.cc_views.specs.Rows.{ViewMap}
 use Rattle.cc_views.specs.declared.value.Value.{Value}
-use Rattle.cc_ops.specs.declared.pending.Asked.{Asked}
+use Rattle.cc_ops.specs.declared.pending_operation.Asked.{Asked}
 use Rattle.cc_ops.specs.declared.stage.Stage.{Stage}
 use Rattle.cc_ops.specs.declared.stage.Stage.TheVariants as stage
 use Rattle.cc_ops.specs.Ops.{Phase, Idle, Storing, Querying, StoringBack, IsWaiting}
-use Rattle.cc_ops.specs.Waiting.{line_limit, written_by}
+use Rattle.cc_ops.specs.WaitingAsks.{line_limit, written_by}
 
 abbrev pub phase_of : Stage → ViewMap → Phase
 phase_of stage.Idle seen = Idle

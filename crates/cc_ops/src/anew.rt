@@ -9,7 +9,7 @@ ghost use Rattle.cc_ops.specs.OwnLaws.{AsksAnewAlone};
 ghost use Rattle.cc_ops.specs.Refusals.{passes};
 
 use crate::ops::Ops;
-use crate::pending::round_of;
+use crate::pending_operation::round_of;
 use crate::stage::Stage;
 use cc_messages::Message;
 use cc_views::{COUNTER_LIMIT, NoMemory, NodeId, View};

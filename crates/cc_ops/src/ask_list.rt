@@ -4,11 +4,11 @@ ghost use Rattle.std.specs.Prelude.{◌≡◌, ◌≤◌, ◌<◌, ◌↔◌, �
 ghost use Rattle.cc_views.specs.Limits.{set_limit};
 ghost use Rattle.cc_views.specs.NatSets as set;
 ghost use Rattle.cc_ops.specs.Stages.{HasRoom};
-ghost use Rattle.cc_ops.specs.Waiting as waiting;
-ghost use Rattle.cc_ops.specs.Waiting.{line_limit, AreApart, first_in, written_by};
+ghost use Rattle.cc_ops.specs.WaitingAsks as waiting;
+ghost use Rattle.cc_ops.specs.WaitingAsks.{line_limit, AreApart, first_in, written_by};
 
 use crate::commands::{finds_no_room, is_writing, written};
-use crate::pending::Asked;
+use crate::pending_operation::Asked;
 use cc_views::{NoMemory, Value};
 use std::alloc::Global;
 use std::marker::Model;
@@ -23,9 +23,9 @@ pub struct AskList {
 impl Model for AskList {
     ghost use Rattle.std.specs.Prelude.{List};
     ghost use Rattle.std.specs.Vec.{vec_capacity};
-    ghost use Rattle.cc_ops.specs.declared.pending.Asked.{Asked as AskedValue};
+    ghost use Rattle.cc_ops.specs.declared.pending_operation.Asked.{Asked as AskedValue};
     ghost use Rattle.cc_ops.specs.Codes.{line_code};
-    ghost use Rattle.cc_ops.specs.Waiting.{FitsLine};
+    ghost use Rattle.cc_ops.specs.WaitingAsks.{FitsLine};
 
     ghost Value = { List AskedValue };
 

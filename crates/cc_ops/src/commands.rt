@@ -12,12 +12,12 @@ ghost use Rattle.cc_ops.specs.Ops as ops;
 ghost use Rattle.cc_ops.specs.Stages.{HasRoom};
 ghost use Rattle.cc_ops.specs.Refusals.{busy, passes, set_full};
 ghost use Rattle.cc_ops.specs.OwnLaws.{IsRound};
-ghost use Rattle.cc_ops.specs.Waiting as waiting;
-ghost use Rattle.cc_ops.specs.Waiting.{line_limit, written_by};
+ghost use Rattle.cc_ops.specs.WaitingAsks as waiting;
+ghost use Rattle.cc_ops.specs.WaitingAsks.{line_limit, written_by};
 
 use crate::ask_list::writes_by;
 use crate::ops::Ops;
-use crate::pending::{Asked, round_of};
+use crate::pending_operation::{Asked, round_of};
 use crate::stage::Stage;
 use cc_messages::{Answer, Command, Message, NumberList, Refusal};
 use cc_objects::{add_member, flag_of, max_of, set_flag, set_of, write_max, write_text};

@@ -5,7 +5,7 @@ ghost use Rattle.std.specs.Option.{option_map};
 ghost use Rattle.cc_views.specs.Limits.{counter_limit};
 ghost use Rattle.cc_ops.specs.Ops as ops;
 ghost use Rattle.cc_ops.specs.Stages.{stage_of, phase_of, HasWaiting, WaitsBehind, HasRoom};
-ghost use Rattle.cc_ops.specs.Waiting.{line_limit, has_session, AreApart};
+ghost use Rattle.cc_ops.specs.WaitingAsks.{line_limit, has_session, AreApart};
 
 use crate::ask_list::{AskList, are_apart};
 use crate::stage::Stage;

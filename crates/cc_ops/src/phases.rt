@@ -8,13 +8,13 @@ ghost use Rattle.cc_messages.specs.declared.message.Message.TheVariants as messa
 ghost use Rattle.cc_ops.specs.Ops as ops;
 ghost use Rattle.cc_ops.specs.Ops.{IsWaiting};
 ghost use Rattle.cc_ops.specs.Refusals.{passes};
-ghost use Rattle.cc_ops.specs.Waiting.{first_in};
+ghost use Rattle.cc_ops.specs.WaitingAsks.{first_in};
 
 use crate::commands::{answer_of, is_writing};
 use crate::ops::Ops;
-use crate::parting::{take_round, value_of_round, writes_of_round};
-use crate::pending::{Asked, Pending, Reply, counted, is_last, round_of};
+use crate::pending_operation::{Asked, Pending, Reply, counted, is_last, round_of};
 use crate::replies::Replies;
+use crate::round_selection::{take_round, value_of_round, writes_of_round};
 use crate::stage::Stage;
 use cc_messages::Message;
 use cc_views::{COUNTER_LIMIT, NoMemory, NodeId, Row, View};

@@ -1,9 +1,9 @@
 //! What clients are told on one event.
 
 ghost use Rattle.std.specs.Prelude.{◌≡◌, ◌≤◌, ◌<◌, ◌==◌, ◌++◌, [], ◌∷◌, length, IfOk, OnOk, OnErr, IfSome, None};
-ghost use Rattle.cc_ops.specs.Waiting.{line_limit};
+ghost use Rattle.cc_ops.specs.WaitingAsks.{line_limit};
 
-use crate::pending::Reply;
+use crate::pending_operation::Reply;
 use cc_views::NoMemory;
 use std::alloc::Global;
 use std::marker::Model;
@@ -17,9 +17,9 @@ pub struct Replies {
 impl Model for Replies {
     ghost use Rattle.std.specs.Prelude.{List, [], length, ◌≤◌};
     ghost use Rattle.std.specs.Option.{option_map_or};
-    ghost use Rattle.cc_ops.specs.declared.pending.Reply.{Reply as ReplyValue};
+    ghost use Rattle.cc_ops.specs.declared.pending_operation.Reply.{Reply as ReplyValue};
     ghost use Rattle.cc_ops.specs.Codes.{replies_code};
-    ghost use Rattle.cc_ops.specs.Waiting.{line_limit};
+    ghost use Rattle.cc_ops.specs.WaitingAsks.{line_limit};
 
     ghost Value = { List ReplyValue };
 

@@ -1,6 +1,6 @@
 //! How far an operation has come.
 
-use crate::pending::Pending;
+use crate::pending_operation::Pending;
 
 /// How far the client's operation has come. A store has one round, a collect two: a query, and a store of what was
 /// seen (CCC, client).

@@ -7,11 +7,11 @@ use Rattle.std.proofs.Common.{refl, sym, ap, subst, ◌∙◌, arith, inl, inr}
 use Rattle.std.specs.Prelude.{filter, find, unwrap_or, option_map}
 use Rattle.std.proofs.lemmas.Bool.{cases_eq, eqb-true, eq-eqb, ne_eqb, ltb-true, ltb-false, cond-true, cond-false}
 use Rattle.std.proofs.lemmas.List.{length-append}
-use Rattle.cc_frames.specs.declared.hello.Hello.{Hello}
-use Rattle.cc_protocol.specs.declared.greeting.PeerGreeting.{PeerGreeting}
-use Rattle.cc_protocol.specs.Greeting.{Greetings, IsGreetings, found, others, row_after, after_welcome, of_node, first_birth}
-use Rattle.cc_protocol.specs.Greeting.{last_other, told_by, told, table_of, AreRemembered, AreAllRemembered}
-use Rattle.cc_protocol.proofs.RoutingLaws.{shorter}
+use Rattle.cc_network.specs.declared.hello.Hello.{Hello}
+use Rattle.cc_protocol.specs.declared.greetings.PeerGreeting.{PeerGreeting}
+use Rattle.cc_protocol.specs.Greetings.{Greetings, IsGreetings, found, others, row_after, after_welcome, of_node, first_birth}
+use Rattle.cc_protocol.specs.Greetings.{last_other, told_by, told, table_of, AreRemembered, AreAllRemembered}
+use Rattle.cc_protocol.proofs.RouteLaws.{shorter}
 
 pub kept_greetings : (rows : Greetings) (capacity : ℕ) → IsGreetings rows capacity → (p : PeerGreeting → Bool) → IsGreetings (filter p rows) capacity
 kept_greetings rows capacity is p = record { fits = omega (arith, shorter p rows, is.fits); room = is.room }

@@ -4,9 +4,9 @@
 use Rattle.std.proofs.Common.{◌≤◌, ◌<◌, Bool, ℕ, [], ◌∷◌, ◌++◌, length, arith}
 use Rattle.std.specs.Prelude.{filter}
 use Rattle.std.proofs.lemmas.List.{length-append}
-use Rattle.cc_ops.specs.declared.pending.Asked.{Asked}
+use Rattle.cc_ops.specs.declared.pending_operation.Asked.{Asked}
 use Rattle.cc_protocol.specs.LastAsks.{Remembered, IsRemembered, session_limit}
-use Rattle.cc_protocol.proofs.RoutingLaws.{shorter}
+use Rattle.cc_protocol.proofs.RouteLaws.{shorter}
 
 pub kept_asks : (rows : Remembered) (capacity : ℕ) → IsRemembered rows capacity → (p : Asked → Bool) → IsRemembered (filter p rows) capacity
 kept_asks rows capacity is p = record { fits = omega (arith, shorter p rows, is.fits); room = is.room }

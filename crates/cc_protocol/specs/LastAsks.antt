@@ -6,7 +6,7 @@
 --     IsRemembered      how many there are
 use Rattle.std.specs.Prelude.{◌≡◌, ◌≢◌, ◌≤◌, ℕ, ◌==◌, nat_lt, not, Bool, true, List, [], ◌∷◌, ◌++◌, length, filter, find, Option, Some, None, IfSome}
 use Rattle.std.specs.Prelude.{if◌then◌else◌}
-use Rattle.cc_ops.specs.declared.pending.Asked.{Asked}
+use Rattle.cc_ops.specs.declared.pending_operation.Asked.{Asked}
 
 abbrev pub Remembered : Type 0
 Remembered = List Asked

@@ -7,6 +7,7 @@ ghost use Rattle.cc_node.specs.Core as machine;
 ghost use Rattle.cc_node.specs.Core.{Core};
 ghost use Rattle.cc_protocol.specs.Admission.{free_posts, may_stir, may_hand_over, is_given_up, is_furthest_behind};
 
+use crate::limits::{HELD_ASK_SECONDS, HELD_MESSAGE_SECONDS};
 use cc_messages::{Event, Message};
 use cc_node::Core;
 use cc_outbox::Outbox;
@@ -21,12 +22,6 @@ const ROOM_BESIDE_ASKS: u64 = 384;
 // How many posts a message leaves room for.
 const ROOM_BESIDE_MESSAGES: u64 = 256;
 
-// After so many seconds an ask is handed over, whatever room there is.
-const PATIENCE: u64 = 10;
-
-// After so many seconds a message that is held back is given up.
-const PATIENCE_WITH_MESSAGES: u64 = 5;
-
 /// Whether an event may be handed to the node `me` now, which keeps so many posts. `is_furthest` tells whether what
 /// brings it is one of the peers that are furthest behind, and `waited` for how many seconds it has been held back.
 pub fn may_hand_over(me: NodeId, event: &Event, kept: u64, is_furthest: bool, waited: u64) -> bool
@@ -34,7 +29,7 @@ pub fn may_hand_over(me: NodeId, event: &Event, kept: u64, is_furthest: bool, wa
 {
     match event {
         Event::Ask { request, .. } => {
-            *request == 0 || waited >= PATIENCE || leaves_room(kept, ROOM_BESIDE_ASKS)
+            *request == 0 || waited >= HELD_ASK_SECONDS || leaves_room(kept, ROOM_BESIDE_ASKS)
         }
         Event::Deliver { message, .. } => {
             !may_stir(me, message) || is_furthest || leaves_room(kept, ROOM_BESIDE_MESSAGES)
@@ -55,7 +50,7 @@ pub fn may_hand_over(me: NodeId, event: &Event, kept: u64, is_furthest: bool, wa
 pub fn is_given_up(event: &Event, waited: u64) -> bool
     ensures { result ≡ is_given_up event.now waited }
 {
-    matches!(event, Event::Deliver { .. }) && waited >= PATIENCE_WITH_MESSAGES
+    matches!(event, Event::Deliver { .. }) && waited >= HELD_MESSAGE_SECONDS
 }
 
 // Whether the node `me` may make a post or an answer of a message, in one state or another.

@@ -4,8 +4,8 @@ ghost use Rattle.std.specs.Prelude.{◌≡◌, ◌≢◌, ◌≤◌, ◌<◌, �
 ghost use Rattle.std.specs.List.{AllByRecursion};
 ghost use Rattle.std.specs.Bool.{then_some};
 ghost use Rattle.std.specs.Vec.{vec_capacity};
-ghost use Rattle.cc_protocol.specs.Routing.{Routing, no_routing, is_open, is_ask, connection_in, connection_of, admitted, entered, may_route, routed};
-ghost use Rattle.cc_protocol.specs.Routing.{is_passed, taken, taken_back, ticket_of, ended, closed, connection_limit, connection_limit_for};
+ghost use Rattle.cc_protocol.specs.Routes.{Routing, no_routing, is_open, is_ask, connection_in, connection_of, admitted, entered, may_route, routed};
+ghost use Rattle.cc_protocol.specs.Routes.{is_passed, taken, taken_back, ticket_of, ended, closed, connection_limit, connection_limit_for};
 
 use crate::origin::{Access, Admitted, Origin};
 use crate::route::Route;
@@ -27,7 +27,7 @@ pub struct Routes {
 
 impl Model for Routes {
     ghost use Rattle.std.specs.Vec.{vec_capacity};
-    ghost use Rattle.cc_protocol.specs.Routing.{Routing, IsRouting};
+    ghost use Rattle.cc_protocol.specs.Routes.{Routing, IsRouting};
 
     ghost Value = { Routing };
 

@@ -3,8 +3,7 @@
 ghost use Rattle.std.specs.Prelude.{◌≡◌};
 ghost use Rattle.cc_protocol.specs.Silence.{is_silent};
 
-// For how many milliseconds no frame of a peer came that is silent. A node that runs sends one each second.
-const SILENCE_MS: u64 = 3000;
+use crate::limits::SILENT_AFTER_MS;
 
 /// Whether a peer is silent at the moment `now`. `has_speaker` tells whether an open connection brings its frames, and `heard` when
 /// the last of them came, if one came since the node was started. Both moments are in milliseconds, by a clock that never goes back.
@@ -13,6 +12,6 @@ pub fn is_silent(has_speaker: bool, heard: Option<u64>, now: u64) -> bool
 {
     match heard {
         None => true,
-        Some(heard) => !has_speaker || now.saturating_sub(heard) >= SILENCE_MS,
+        Some(heard) => !has_speaker || now.saturating_sub(heard) >= SILENT_AFTER_MS,
     }
 }

@@ -2,7 +2,7 @@
 
 ghost use Rattle.std.specs.Prelude.{◌≡◌, [], IfOk};
 ghost use Rattle.std.specs.Vec.{vec_capacity};
-ghost use Rattle.cc_protocol.specs.Speaking.{is_replaced, has_speaker, older_of, spoken_over, spoken, others, speaking_after, silenced};
+ghost use Rattle.cc_protocol.specs.Speakers.{is_replaced, has_speaker, older_of, spoken_over, spoken, others, speaking_after, silenced};
 
 use cc_views::{NoMemory, NodeId};
 use std::alloc::Global;
@@ -35,7 +35,7 @@ pub struct Speakers {
 
 impl Model for Speakers {
     ghost use Rattle.std.specs.Vec.{vec_capacity};
-    ghost use Rattle.cc_protocol.specs.Speaking.{Speaking, IsSpeaking};
+    ghost use Rattle.cc_protocol.specs.Speakers.{Speaking, IsSpeaking};
 
     ghost Value = { Speaking };
 

@@ -2,7 +2,7 @@
 
 ghost use Rattle.std.specs.Prelude.{◌≡◌, ◌==◌, ◌||◌, nat_le, length, drop, slice_get, IfOk, if◌then◌else◌};
 ghost use Rattle.std.specs.Vec.{vec_capacity};
-ghost use Rattle.cc_protocol.specs.Wishing.{no_wishes, is_wished, wished, wish_limit};
+ghost use Rattle.cc_protocol.specs.Wishes.{no_wishes, is_wished, wished, wish_limit};
 
 use cc_views::{NoMemory, NodeId};
 use std::alloc::Global;
@@ -18,7 +18,7 @@ pub struct Wishes {
 
 impl Model for Wishes {
     ghost use Rattle.std.specs.Vec.{vec_capacity};
-    ghost use Rattle.cc_protocol.specs.Wishing.{Wishing, IsWishing};
+    ghost use Rattle.cc_protocol.specs.Wishes.{Wishing, IsWishing};
 
     ghost Value = { Wishing };
 

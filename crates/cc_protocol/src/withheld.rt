@@ -2,7 +2,7 @@
 
 ghost use Rattle.std.specs.Prelude.{◌≡◌, ◌≤◌, ◌<◌, ◌++◌, ◌∷◌, [], None, Some, IfSome, false, length};
 ghost use Rattle.cc_messages.specs.Ranges.{IsRange};
-ghost use Rattle.cc_protocol.specs.Withholding.{covered, in_run, IsNext, joined, Holds};
+ghost use Rattle.cc_protocol.specs.Withheld.{covered, in_run, IsNext, joined, Holds};
 
 use cc_messages::PostRange;
 use std::marker::Model;

@@ -1,6 +1,6 @@
 //! What a node is run with.
 
-use cc_addresses::{Address, Peer};
+use cc_network::{Address, Peer};
 use cc_words::{Identity, Speech};
 
 /// What a node is run with.

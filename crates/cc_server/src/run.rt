@@ -2,31 +2,27 @@
 
 ghost use Rattle.std.specs.Prelude.{◌≡◌, ℕ, List, None, false};
 ghost use Rattle.cc_journal.specs.declared.entry.Entry.{Entry as EntryValue};
-ghost use Rattle.cc_intake.specs.Accepting.{share_limit};
+ghost use Rattle.cc_intake.specs.Intakes.{share_limit};
 
 use crate::config::Config;
 use crate::run_fault::RunFault;
 use crate::threads::{cut, live};
-use cc_addresses::Address;
-use cc_channels::{Admission, Durable, millis};
-use cc_files::FileSite;
-use cc_flags::Stop;
-use cc_flush::{Back, Failed, Flusher, open_anew};
-use cc_flushing::Measured;
-use cc_frames::Quorum;
-use cc_intake::{
-    Ends, Finished, Hooked, Hooks, Intake, Lane, Life, Queue, Share, Turner, finish, lane, start,
+use cc_channels::{
+    Admission, Durable, Inlets, Listeners, Machine, Notice, Shared, give_notice, millis,
 };
-use cc_life::OfLife;
+use cc_flush::{Back, Failed, Flusher, open_anew};
+use cc_intake::{
+    Ends, Finished, Hooked, Hooks, Intake, Lane, Life, OfLife, Queue, Share, Turner, finish, lane,
+    start,
+};
 use cc_messages::Event;
+use cc_network::{Address, Quorum, Stop};
 use cc_node::Core;
 use cc_protocol::{Greeter, Recipient, Routes};
-use cc_shared::{
-    Inlets, Listeners, Machine, Notice, ServerOutlet, Shared, give_notice, note_opened,
-};
-use cc_site::Site;
-use cc_views::NodeId;
-use cc_watch::Board;
+use cc_site::{FileSite, Site};
+use cc_status::Board;
+use cc_threads::{Measured, ServerOutlet, note_opened};
+use cc_views::{NoMemory, NodeId};
 use cc_workers::Context;
 use log::{Log, error, info};
 use std::alloc::Global;
@@ -72,7 +68,7 @@ where
     R: Machine,
     F: Files<File = File>,
 {
-    let (shared, inlets) = match shared(alloc, config, millis(rt)) {
+    let (board, shared, inlets) = match shared(alloc, config, millis(rt)) {
         Ok(made) => made,
         Err(fault) => {
             drop(listener);
@@ -86,16 +82,27 @@ where
         stop,
         hooks,
         shared: &shared,
+        board: &board,
     };
     let outcome = open_and_run(&run, files, listener, inlets);
-    drop(shared);
+    drop((shared, board));
     outcome
 }
 
-// What the threads of a node need that is started at that moment.
-fn shared(alloc: Global, config: &Config<'_>, now: u64) -> Result<(Shared, Inlets), RunFault> {
+// What the threads of a node need that is started at that moment, and what those look at who may look at the node.
+fn shared(
+    alloc: Global,
+    config: &Config<'_>,
+    now: u64,
+) -> Result<(Option<Board>, Shared, Inlets), RunFault> {
     let board = board(alloc, config, now)?;
-    Shared::new(alloc, &config.peers, board, now).or(Err(RunFault::NoMemory))
+    match Shared::new(alloc, &config.peers, now) {
+        Ok((shared, inlets)) => Ok((board, shared, inlets)),
+        Err(NoMemory) => {
+            drop(board);
+            Err(RunFault::NoMemory)
+        }
+    }
 }
 
 // What those who may look at the node look at.
@@ -116,6 +123,7 @@ struct Run<'a, R, H> {
     stop: &'a Stop,
     hooks: &'a H,
     shared: &'a Shared,
+    board: &'a Option<Board>,
 }
 
 // A node that is ready to serve.
@@ -489,7 +497,7 @@ where
         queue: &queue,
         shares: &shares,
     };
-    let (watch, far_ends) = cut(inlets, run.alloc, run.shared);
+    let (watch, far_ends) = cut(inlets, run.alloc, run.shared, run.board.as_ref());
     let outcome = live(&context, &mut turner, watch, far_ends, &listeners, run.stop);
     drop(listeners);
     let finished = finish(

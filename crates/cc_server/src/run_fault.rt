@@ -5,8 +5,8 @@ ghost use Rattle.cc_server.specs.declared.run_fault.RunFault.TheVariants as faul
 ghost use Rattle.cc_server.specs.Faults.{of_site};
 
 use cc_checkpoint::OpenFault;
-use cc_files::SiteFault;
 use cc_flush::Failed;
+use cc_site::SiteFault;
 use cc_views::NoMemory;
 use std::alloc::{AllocError, AllocFailed};
 use std::error::Error;

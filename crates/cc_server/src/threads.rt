@@ -2,18 +2,17 @@
 
 ghost use Rattle.std.specs.Thread.{IsSend};
 
-use cc_channels::{Admission, FarEnd};
-use cc_dialling::{Dialler, Follower, dial_peer, follow_peers};
-use cc_flags::{Flag, Stop};
-use cc_flush::Failed;
-use cc_flushing::{Watch, flush_all};
-use cc_intake::{Hooks, Lane, Life, Queue, Turner};
-use cc_life::OfLife;
-use cc_messages::Event;
-use cc_shared::{
-    Inlets, Listeners, Machine, Note, Port, Shared, show_until, tick_until, write_notes,
+use cc_channels::{
+    Admission, Dialler, FarEnd, Inlets, Listeners, Machine, Note, Port, Shared, dial_peer,
+    write_notes,
 };
+use cc_flush::Failed;
+use cc_intake::{Hooks, Lane, Life, OfLife, Queue, Turner};
+use cc_messages::Event;
+use cc_network::{Flag, Stop};
 use cc_site::Site;
+use cc_status::Board;
+use cc_threads::{Follower, Watch, flush_all, follow_peers, show_until, tick_until};
 use cc_workers::{Context, attend, serve_own};
 use crossbeam_channel::Receiver;
 use std::alloc::Global;
@@ -35,7 +34,12 @@ pub struct FarEnds {
 }
 
 /// What the flusher takes out of, and what the workers and writers do.
-pub fn cut(inlets: Inlets, alloc: Global, shared: &Shared) -> (Watch<'_>, FarEnds) {
+pub fn cut<'x>(
+    inlets: Inlets,
+    alloc: Global,
+    shared: &'x Shared,
+    board: Option<&'x Board>,
+) -> (Watch<'x>, FarEnds) {
     let Inlets {
         parker,
         far,
@@ -46,6 +50,7 @@ pub fn cut(inlets: Inlets, alloc: Global, shared: &Shared) -> (Watch<'_>, FarEnd
         alloc,
         parker,
         shared,
+        board,
     };
     let ends = FarEnds { far, own, notes };
     (watch, ends)
@@ -79,8 +84,10 @@ where
                 .spawn(move || tick_until(rt, shared, admission, listeners, stop))
                 .ok()?;
             if let Some(pages) = &listeners.pages {
-                let alloc = context.alloc;
-                let _ = scope.spawn(move || show_until(rt, alloc, shared, pages));
+                if let Some(board) = watch.board {
+                    let alloc = context.alloc;
+                    let _ = scope.spawn(move || show_until(rt, alloc, shared, board, pages));
+                }
             }
             let Ok(server) = scope.spawn(move || serve_until(context, ends, listeners, stop)) else {
                 shared.done.set();

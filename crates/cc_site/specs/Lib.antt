@@ -5,7 +5,7 @@ pub mod HalfLaws
 pub mod Gates
 pub mod Moments
 pub mod Runs
-pub mod Telling
+pub mod ToldFaults
 pub mod Reads
 pub mod Crashes
 pub mod Record

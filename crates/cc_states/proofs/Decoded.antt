@@ -4,16 +4,16 @@ use Rattle.std.specs.Prelude.{◌↔◌, Option, IfSome, IsTrue, is_some}
 use Rattle.std.specs.Option.{ok_or}
 use Rattle.cc_wire.specs.declared.fault.WireFault.{WireFault}
 use Rattle.cc_wire.specs.declared.fault.WireFault.TheVariants.{NoMemory}
-use Rattle.cc_wire.specs.Reading.{Fails, whole}
+use Rattle.cc_wire.specs.Readers.{Fails, whole}
 use Rattle.cc_wire.proofs.Spelled.{IsBytes}
 use Rattle.cc_wire.proofs.Whole.{whole_takes, whole_again}
 use Rattle.cc_node.specs.Node.{Node}
 use Rattle.cc_node.specs.Lawful.{IsLawfulNode}
-use Rattle.cc_sides.specs.declared.layout.Layout.{Layout}
-use Rattle.cc_sides.specs.States.{State, SpellsState, SpellsNode, state_at, node_of, state_of}
+use Rattle.cc_states.specs.declared.layout.Layout.{Layout}
+use Rattle.cc_states.specs.States.{State, SpellsState, SpellsNode, state_at, node_of, state_of}
 use Rattle.cc_states.specs.declared.fault.StateFault.{StateFault}
 use Rattle.cc_states.specs.declared.fault.StateFault.TheVariants.{Wire, Unlawful}
-use Rattle.cc_states.specs.Decoding.{SpellsUnlawful, Decodes, Is}
+use Rattle.cc_states.specs.Decoders.{SpellsUnlawful, Decodes, Is}
 use Rattle.cc_states.proofs.StateFormat.{state_spelled}
 use Rattle.cc_states.proofs.NodeStates.{state_of-node_of, node_of-state_of, one_spelling_of_state, one_spelling_of_node}
 

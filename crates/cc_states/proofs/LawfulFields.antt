@@ -9,14 +9,14 @@ use Rattle.cc_links.specs.Rows as links
 use Rattle.cc_sessions.specs.Sessions.{Requests}
 use Rattle.cc_outbox.specs.Rows as kept_rows
 use Rattle.cc_outbox.proofs.Edits.{len_posts}
-use Rattle.cc_ops.specs.declared.pending.Pending.{Pending}
+use Rattle.cc_ops.specs.declared.pending_operation.Pending.{Pending}
 use Rattle.cc_ops.specs.declared.stage.Stage.{Stage}
 use Rattle.cc_ops.specs.declared.stage.Stage.TheVariants as stage
 use Rattle.cc_ops.specs.Ops.{IsWaiting}
 use Rattle.cc_ops.specs.Stages.{phase_of, stage_of, HasWaiting, WaitsBehind}
 use Rattle.cc_node.specs.Node.{Node}
 use Rattle.cc_node.specs.Lawful.{IsPendingIn, IsPhaseOf, IsLawfulNode}
-use Rattle.cc_sides.specs.States.{node_of}
+use Rattle.cc_states.specs.States.{node_of}
 use Rattle.cc_states.specs.declared.fields.Fields.{Fields}
 use Rattle.cc_states.specs.Fields.{state_in, AreRead, CanBuild}
 

@@ -17,8 +17,8 @@ use Rattle.cc_outbox.proofs.Numbers.{sorted_numbered, find_numbered}
 use Rattle.cc_node.specs.Core.{lowest}
 use Rattle.cc_node.specs.Node.{Node}
 use Rattle.cc_node.specs.Lawful.{IsLawfulNode}
-use Rattle.cc_sides.specs.declared.layout.Layout.{Layout}
-use Rattle.cc_sides.specs.States.{State, SpellsState, SpellsNode, numbered_to, node_of, state_of}
+use Rattle.cc_states.specs.declared.layout.Layout.{Layout}
+use Rattle.cc_states.specs.States.{State, SpellsState, SpellsNode, numbered_to, node_of, state_of}
 use Rattle.cc_wire.proofs.Items.{all_weaker}
 use Rattle.cc_wire.proofs.Whole.{one_spelling}
 use Rattle.cc_states.proofs.StateFormat.{entries_again, state_spelled}

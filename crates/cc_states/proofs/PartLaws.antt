@@ -23,8 +23,8 @@ use Rattle.cc_outbox.specs.Rows.{entry_of, row_of, answers_of}
 use Rattle.cc_sessions.specs.Sessions.{Requests}
 use Rattle.cc_node.specs.Core.{Core}
 use Rattle.cc_node.specs.Node.{Node}
-use Rattle.cc_sides.specs.States.{membership_spelling, membership_of, stored_spelling, entering_spelling, table_spelling, link_spelling, session_spelling}
-use Rattle.cc_sides.specs.States.{kept_answer_spelling, node_spelling}
+use Rattle.cc_states.specs.States.{membership_spelling, membership_of, stored_spelling, entering_spelling, table_spelling, link_spelling, session_spelling}
+use Rattle.cc_states.specs.States.{kept_answer_spelling, node_spelling}
 use Rattle.cc_states.specs.Parts.{own_spelling, operations_spelling, front_spelling, kept_parts, parts_of, joined}
 use Rattle.cc_states.proofs.NodeStates.{length-values}
 

@@ -6,7 +6,7 @@ use Rattle.std.proofs.Common.{◌≡◌, ℕ, suc, ◌+◌, ◌-◌, ◌<◌, eq
 use Rattle.std.specs.Prelude.{is_ok, ◌==◌, ⊤}
 use Rattle.cc_wire.specs.declared.fault.WireFault.{WireFault}
 use Rattle.cc_wire.specs.declared.fault.WireFault.TheVariants.{NoMemory, Trailing}
-use Rattle.cc_wire.specs.Reading.{◌>>=◌, Fails, Gives, TakesNoMemory, Reading, items_at, ended}
+use Rattle.cc_wire.specs.Readers.{◌>>=◌, Fails, Gives, TakesNoMemory, Reading, items_at, ended}
 use Rattle.cc_wire.proofs.Items.{with_front}
 use Rattle.cc_wire.proofs.Spelled.{bind_ok}
 use Rattle.cc_states.specs.declared.source_fault.SourceFault.{SourceFault}

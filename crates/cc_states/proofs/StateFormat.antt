@@ -10,8 +10,8 @@ use Rattle.std.proofs.lemmas.Bool.{ltb-false, le-ltb, or_parts, or_from}
 use Rattle.std.proofs.lemmas.List.Concat.{flat_map-cons}
 use Rattle.cc_views.specs.Entries.{from_T, ascending_of_sorted, sorted_of_ascending, entries_back}
 use Rattle.cc_wire.specs.declared.fault.WireFault.TheVariants.{BadKind, NotAscending}
-use Rattle.cc_wire.specs.Reading.{◌>>=◌, Reading, via, nothing_at, byte_at, items_at}
-use Rattle.cc_ops.specs.declared.pending.Asked.{Asked}
+use Rattle.cc_wire.specs.Readers.{◌>>=◌, Reading, via, nothing_at, byte_at, items_at}
+use Rattle.cc_ops.specs.declared.pending_operation.Asked.{Asked}
 use Rattle.cc_ops.specs.Ops.{Phase, Idle, Storing, Querying, StoringBack}
 use Rattle.cc_links.specs.Links.{Link}
 use Rattle.cc_wire.proofs.Spelled.{IsBytes, bind_ok, guard_ok, ok_is, Takes, Takes-then, Spelled, both, as_fields, as_facts, tested, counted}
@@ -22,19 +22,19 @@ use Rattle.cc_wire.proofs.Items.{all_weaker}
 use Rattle.cc_wire.proofs.MessageFormat.{message_spelled}
 use Rattle.cc_wire.proofs.AnswerFormat.{answer_spelled}
 use Rattle.cc_wire.proofs.EventFormat.{asked_spelled}
-use Rattle.cc_wire.specs.Spelling.{value_spelling, IsValue}
+use Rattle.cc_wire.specs.Spellings.{value_spelling, IsValue}
 use Rattle.cc_states.specs.Fields.{own_at}
 use Rattle.cc_messages.specs.Shares.{share_limit}
-use Rattle.cc_sides.specs.declared.layout.Layout.{Layout}
-use Rattle.cc_sides.specs.declared.layout.Layout.TheVariants.{Plain, Lined, Shared}
-use Rattle.cc_sides.specs.States.{fraction_spelling, IsFraction, fraction_with, fraction_at}
-use Rattle.cc_sides.specs.States.{membership_spelling, IsMembership, membership_with, membership_at, pending_spelling, IsPending, pending_with, pending_at}
-use Rattle.cc_sides.specs.States.{phase_spelling, IsPhase, phase_fields, phase_at, ask_spelling, IsAsk, ask_with, ask_at, asks_spelling, AreAsks, ask_list_at}
-use Rattle.cc_sides.specs.States.{line_spelling, IsLineOf, line_at, others_spelling, IsRoundShare, AreOthersOf, share_at, others_at, round_spelling, round_at}
-use Rattle.cc_sides.specs.States.{entering_spelling, entering_at, work_spelling, IsWork, work_with, work_at, table_spelling, IsTableOf, row_list_at, table_at}
-use Rattle.cc_sides.specs.States.{link_spelling, IsLink, link_with, link_at, session_from, session_spelling, IsSession, session_at, most_rows}
-use Rattle.cc_sides.specs.States.{kept_answer_spelling, IsKeptAnswer, kept_answer_at, kept_spelling, IsKeptPosts, kept_at}
-use Rattle.cc_sides.specs.States.{tables_spelling, IsTables, tables_with, tables_at, state_spelling, IsState, state_with, state_at}
+use Rattle.cc_states.specs.declared.layout.Layout.{Layout}
+use Rattle.cc_states.specs.declared.layout.Layout.TheVariants.{Plain, Lined, Shared}
+use Rattle.cc_states.specs.States.{fraction_spelling, IsFraction, fraction_with, fraction_at}
+use Rattle.cc_states.specs.States.{membership_spelling, IsMembership, membership_with, membership_at, pending_spelling, IsPending, pending_with, pending_at}
+use Rattle.cc_states.specs.States.{phase_spelling, IsPhase, phase_fields, phase_at, ask_spelling, IsAsk, ask_with, ask_at, asks_spelling, AreAsks, ask_list_at}
+use Rattle.cc_states.specs.States.{line_spelling, IsLineOf, line_at, others_spelling, IsRoundShare, AreOthersOf, share_at, others_at, round_spelling, round_at}
+use Rattle.cc_states.specs.States.{entering_spelling, entering_at, work_spelling, IsWork, work_with, work_at, table_spelling, IsTableOf, row_list_at, table_at}
+use Rattle.cc_states.specs.States.{link_spelling, IsLink, link_with, link_at, session_from, session_spelling, IsSession, session_at, most_rows}
+use Rattle.cc_states.specs.States.{kept_answer_spelling, IsKeptAnswer, kept_answer_at, kept_spelling, IsKeptPosts, kept_at}
+use Rattle.cc_states.specs.States.{tables_spelling, IsTables, tables_with, tables_at, state_spelling, IsState, state_with, state_at}
 
 -- ---- fractions
 

@@ -7,24 +7,24 @@ use Rattle.std.specs.FinMap as table
 use Rattle.std.specs.FinMap.{FinMap}
 use Rattle.std.proofs.lemmas.List.{length-append}
 use Rattle.cc_views.specs.declared.value.Value.{Value}
-use Rattle.cc_wire.specs.Spelling.{value_spelling, IsValue, view_spelling}
+use Rattle.cc_wire.specs.Spellings.{value_spelling, IsValue, view_spelling}
 use Rattle.cc_wire.specs.Messages.{message_spelling, IsMessage}
 use Rattle.cc_wire.specs.Events.{asked_spelling}
 use Rattle.cc_messages.specs.declared.answer.Answer.{Answer}
 use Rattle.cc_messages.specs.declared.message.Message.{Message}
 use Rattle.cc_wire.proofs.Lengths.{length-pieces, length-value, length-view, length-changes, length-message, length-answer, length-asked}
 use Rattle.cc_links.specs.Links.{Link}
-use Rattle.cc_ops.specs.declared.pending.Asked.{Asked}
-use Rattle.cc_ops.specs.declared.pending.Pending.{Pending}
+use Rattle.cc_ops.specs.declared.pending_operation.Asked.{Asked}
+use Rattle.cc_ops.specs.declared.pending_operation.Pending.{Pending}
 use Rattle.cc_ops.specs.Ops.{Phase, Idle, Storing, Querying, StoringBack}
 use Rattle.cc_node.specs.Node.{Node}
-use Rattle.cc_sides.specs.declared.layout.Layout.{Layout}
-use Rattle.cc_sides.specs.declared.layout.Layout.TheVariants.{Plain, Lined, Shared}
-use Rattle.cc_sides.specs.States.{Membership, Work, Tables, membership_spelling, IsMembership, counts_spelling, pending_spelling, IsPending}
-use Rattle.cc_sides.specs.States.{phase_spelling, IsPhase, ask_spelling, IsAsk, asks_spelling, AreAsks, line_spelling, IsLineOf, others_spelling, AreOthersOf}
-use Rattle.cc_sides.specs.States.{round_spelling, stored_spelling, entering_spelling, work_spelling, IsWork, table_spelling, IsTableOf}
-use Rattle.cc_sides.specs.States.{link_spelling, IsLink, session_spelling, IsSession}
-use Rattle.cc_sides.specs.States.{kept_answer_spelling, IsKeptAnswer, kept_spelling, IsKeptPosts, tables_spelling, IsTables, SpellsNode, state_of}
+use Rattle.cc_states.specs.declared.layout.Layout.{Layout}
+use Rattle.cc_states.specs.declared.layout.Layout.TheVariants.{Plain, Lined, Shared}
+use Rattle.cc_states.specs.States.{Membership, Work, Tables, membership_spelling, IsMembership, counts_spelling, pending_spelling, IsPending}
+use Rattle.cc_states.specs.States.{phase_spelling, IsPhase, ask_spelling, IsAsk, asks_spelling, AreAsks, line_spelling, IsLineOf, others_spelling, AreOthersOf}
+use Rattle.cc_states.specs.States.{round_spelling, stored_spelling, entering_spelling, work_spelling, IsWork, table_spelling, IsTableOf}
+use Rattle.cc_states.specs.States.{link_spelling, IsLink, session_spelling, IsSession}
+use Rattle.cc_states.specs.States.{kept_answer_spelling, IsKeptAnswer, kept_spelling, IsKeptPosts, tables_spelling, IsTables, SpellsNode, state_of}
 use Rattle.cc_states.proofs.LawfulFields.{answers_within}
 
 pub length-membership : (m : Membership) → IsMembership m → length (membership_spelling m) ≤ 3098

@@ -11,9 +11,9 @@ use Rattle.cc_views.specs.Tables.{IsRising, rising-push}
 use Rattle.cc_wire.specs.declared.fault.WireFault.{WireFault}
 use Rattle.cc_messages.specs.declared.message.Message.{Message}
 use Rattle.cc_wire.specs.Messages.{message_at}
-use Rattle.cc_wire.specs.Reading.{Reading, items_at}
+use Rattle.cc_wire.specs.Readers.{Reading, items_at}
 use Rattle.cc_wire.proofs.Items.{with_front, goes_on, still_below, below_next}
-use Rattle.cc_sides.specs.States.{rows_at, posts_at}
+use Rattle.cc_states.specs.States.{rows_at, posts_at}
 
 pub err_is : {T E : Type 0} {e : E} (r : Result T E) → IsErrAnd r (λ y. y ≡ e) → r ≡ Err e
 err_is (Ok x) is = absurd is

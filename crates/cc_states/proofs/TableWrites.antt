@@ -10,9 +10,9 @@ use Rattle.std.specs.FinMap.{FinMap}
 use Rattle.std.specs.declared.alloc.AllocError.{AllocError}
 use Rattle.std.proofs.lemmas.List.{length-map}
 use Rattle.std.proofs.lemmas.List.Folds.{flat_map-map}
-use Rattle.cc_wire.specs.Writing.{Writes}
+use Rattle.cc_wire.specs.Writers.{Writes}
 use Rattle.cc_wire.proofs.Writes.{writes_then}
-use Rattle.cc_sides.specs.States.{table_spelling, IsTableOf}
+use Rattle.cc_states.specs.States.{table_spelling, IsTableOf}
 
 pub on_ok : {A E : Type 0} {P Q : Type 0} (r : Result A E) → (P → Q) → OnOk r P → OnOk r Q
 on_ok (Ok x) to h = to h

@@ -3,13 +3,13 @@ use Rattle.std.proofs.Common.{◌≡◌, ◌⊎◌, inl, inr, sym, ap, ℕ, ◌<
 use Rattle.std.proofs.lemmas.Bool.{eqb-true, eqb-false, ne_eqb}
 use Rattle.std.proofs.lemmas.List.{nil_from_length}
 use Rattle.std.specs.Prelude.{if◌then◌else◌}
-use Rattle.cc_ops.specs.declared.pending.Asked.{Asked}
-use Rattle.cc_sides.specs.declared.layout.Layout.{Layout}
-use Rattle.cc_sides.specs.declared.layout.Layout.TheVariants.{Plain, Lined, Shared}
-use Rattle.cc_sides.specs.Layouts.{layout_for}
+use Rattle.cc_ops.specs.declared.pending_operation.Asked.{Asked}
+use Rattle.cc_states.specs.declared.layout.Layout.{Layout}
+use Rattle.cc_states.specs.declared.layout.Layout.TheVariants.{Plain, Lined, Shared}
+use Rattle.cc_states.specs.Layouts.{layout_for}
 use Rattle.cc_messages.specs.Shares.{share_limit}
 use Rattle.cc_node.specs.Node.{Node}
-use Rattle.cc_sides.specs.States.{SpellsNode, layout_of_node, AreAsks, IsLineOf, AreOthersOf}
+use Rattle.cc_states.specs.States.{SpellsNode, layout_of_node, AreAsks, IsLineOf, AreOthersOf}
 
 pub line_written : (share : ℕ) (line : List Asked) → AreAsks line → IsLineOf (layout_for share) line
 line_written share line are = in_either (eqb share 1)

@@ -8,16 +8,16 @@ use Rattle.std.specs.Int.{w64}
 use Rattle.cc_views.specs.Limits.{counter_limit, known_limit, session_limit}
 use Rattle.cc_views.specs.Tables.{IsRising, table_of}
 use Rattle.cc_views.specs.declared.value.Value.{Value}
-use Rattle.cc_wire.specs.Reading.{Reading, ◌⊗◌, number_at, value_at}
+use Rattle.cc_wire.specs.Readers.{Reading, ◌⊗◌, number_at, value_at}
 use Rattle.cc_links.specs.Rows as links
 use Rattle.cc_sessions.specs.Rows as sessions
 use Rattle.cc_outbox.specs.Rows as answers
 use Rattle.cc_outbox.specs.Outbox.{post_limit}
 use Rattle.cc_ops.specs.Ops.{Phase}
 use Rattle.cc_ops.specs.Stages.{phase_of, HasWaiting, WaitsBehind, HasRoom}
-use Rattle.cc_ops.specs.declared.pending.Asked.{Asked}
+use Rattle.cc_ops.specs.declared.pending_operation.Asked.{Asked}
 use Rattle.cc_messages.specs.Shares.{share_limit}
-use Rattle.cc_sides.specs.States as states
+use Rattle.cc_states.specs.States as states
 use Rattle.cc_states.specs.declared.fields.Membership.{Membership}
 use Rattle.cc_states.specs.declared.fields.Own.{Own}
 use Rattle.cc_states.specs.declared.fields.Entering.{Entering}

@@ -1,4 +1,11 @@
 pub mod Fields
-pub mod Decoding
+pub mod Decoders
 pub mod Parts
 pub mod Sources
+pub mod Layouts
+pub mod States
+pub mod Sides
+pub mod Good
+pub mod Fronts
+pub mod RecordLaws
+pub mod GoodLaws

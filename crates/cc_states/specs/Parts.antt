@@ -12,9 +12,9 @@ use Rattle.cc_ops.specs.Ops.{Ops}
 use Rattle.cc_outbox.specs.Outbox.{Outbox}
 use Rattle.cc_node.specs.Core.{Core}
 use Rattle.cc_node.specs.Node.{Node}
-use Rattle.cc_sides.specs.Layouts.{layout_for}
-use Rattle.cc_sides.specs.States.{membership_spelling, membership_of, stored_spelling, entering_spelling, round_spelling}
-use Rattle.cc_sides.specs.States.{table_spelling, link_spelling, session_spelling, kept_answer_spelling}
+use Rattle.cc_states.specs.Layouts.{layout_for}
+use Rattle.cc_states.specs.States.{membership_spelling, membership_of, stored_spelling, entering_spelling, round_spelling}
+use Rattle.cc_states.specs.States.{table_spelling, link_spelling, session_spelling, kept_answer_spelling}
 
 -- what is stored, and how far the own entering has come
 abbrev pub own_spelling : Core → List ℕ

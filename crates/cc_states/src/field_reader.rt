@@ -2,21 +2,21 @@
 
 ghost use Rattle.std.specs.Prelude.{◌≡◌, ◌≤◌, length, map, IfOk};
 ghost use Rattle.cc_views.specs.Tables.{IsRising, table_of};
-ghost use Rattle.cc_wire.specs.Reading.{Gives, whole};
+ghost use Rattle.cc_wire.specs.Readers.{Gives, whole};
 ghost use Rattle.cc_links.specs.Rows as links;
 ghost use Rattle.cc_outbox.specs.Outbox.{post_limit};
 ghost use Rattle.cc_outbox.specs.Rows as answers;
-ghost use Rattle.cc_sides.specs.States.{work_at, rows_at, table_at, link_at, kept_answer_at, posts_at, kept_at, most_rows, tables_at, state_at};
+ghost use Rattle.cc_states.specs.States.{work_at, rows_at, table_at, link_at, kept_answer_at, posts_at, kept_at, most_rows, tables_at, state_at};
 ghost use Rattle.cc_states.specs.Fields.{work_in, tables_in, state_in, AreRead};
 ghost use Rattle.cc_states.specs.Sources.{Finds, failure_of};
 
 use crate::fields::{Entering, Fields, Own, Tables, Work};
+use crate::layout::Layout;
 use crate::source::{InMemory, Source};
 use crate::source_fault::SourceFault;
 use cc_links::LinkRow;
 use cc_messages::Message;
 use cc_outbox::{KeptAnswer, Outbox};
-use cc_sides::Layout;
 use cc_wire::{Reader, WireFault};
 use std::alloc::Global;
 
@@ -87,7 +87,7 @@ fn read_kept_answers<D, P, S: Source<D, P>>(
     Ok(rows)
 }
 
-#[tactic(auto, unfolding(cc_sides::specs::States::row_list_at))]
+#[tactic(auto, unfolding(crate::specs::States::row_list_at))]
 fn read_link_table<D, P, S: Source<D, P>>(
     alloc: Global,
     device: &mut D,
@@ -104,7 +104,7 @@ fn read_link_table<D, P, S: Source<D, P>>(
     read_links(alloc, device, piece, source, count)
 }
 
-#[tactic(auto, unfolding(cc_sides::specs::States::row_list_at))]
+#[tactic(auto, unfolding(crate::specs::States::row_list_at))]
 fn read_answer_table<D, P, S: Source<D, P>>(
     alloc: Global,
     device: &mut D,
@@ -121,7 +121,7 @@ fn read_answer_table<D, P, S: Source<D, P>>(
     read_kept_answers(alloc, device, piece, source, count)
 }
 
-#[tactic(auto, unfolding(cc_sides::specs::States::kept_at))]
+#[tactic(auto, unfolding(crate::specs::States::kept_at))]
 fn read_kept<D, P, S: Source<D, P>>(
     alloc: Global,
     device: &mut D,
@@ -141,7 +141,7 @@ fn read_kept<D, P, S: Source<D, P>>(
     read_posts(alloc, device, piece, source, count)
 }
 
-#[tactic(auto, unfolding(cc_sides::specs::States::work_at))]
+#[tactic(auto, unfolding(crate::specs::States::work_at))]
 fn read_work<D, P, S: Source<D, P>>(
     alloc: Global,
     device: &mut D,
@@ -186,7 +186,7 @@ fn read_work<D, P, S: Source<D, P>>(
     }
 }
 
-#[tactic(auto, unfolding(cc_sides::specs::States::tables_at))]
+#[tactic(auto, unfolding(crate::specs::States::tables_at))]
 fn read_tables<D, P, S: Source<D, P>>(
     alloc: Global,
     device: &mut D,
@@ -213,7 +213,7 @@ fn read_tables<D, P, S: Source<D, P>>(
     })
 }
 
-#[tactic(auto, unfolding(cc_sides::specs::States::state_at))]
+#[tactic(auto, unfolding(crate::specs::States::state_at))]
 fn read_fields<D, P, S: Source<D, P>>(
     alloc: Global,
     device: &mut D,
@@ -249,7 +249,7 @@ fn read_fields<D, P, S: Source<D, P>>(
 }
 
 /// The fields of the state that lies ahead, all of it.
-#[tactic(auto, unfolding(cc_wire::specs::Reading::whole, cc_wire::specs::Reading::ended))]
+#[tactic(auto, unfolding(cc_wire::specs::Readers::whole, cc_wire::specs::Readers::ended))]
 pub fn read_whole<D, P, S: Source<D, P>>(
     alloc: Global,
     device: &mut D,

@@ -3,9 +3,9 @@
 ghost use Rattle.std.specs.Prelude.{◌≡◌, ◌⊎◌, ◌≤◌, ℕ, List, ◌++◌, length};
 ghost use Rattle.cc_node.specs.Node.{Node};
 ghost use Rattle.cc_node.specs.Lawful.{IsLawfulNode};
-ghost use Rattle.cc_sides.specs.declared.layout.Layout.{Layout};
-ghost use Rattle.cc_sides.specs.declared.layout.Layout.TheVariants as layouts;
-ghost use Rattle.cc_sides.specs.States.{State, SpellsState, SpellsNode, node_of, layout_of_node};
+ghost use Rattle.cc_states.specs.declared.layout.Layout.{Layout};
+ghost use Rattle.cc_states.specs.declared.layout.Layout.TheVariants as layouts;
+ghost use Rattle.cc_states.specs.States.{State, SpellsState, SpellsNode, node_of, layout_of_node};
 
 /// In each layout, each state has one spelling, and none begins another.
 pub fn one_spelling_of_states()

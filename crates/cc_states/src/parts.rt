@@ -2,13 +2,14 @@
 
 ghost use Rattle.std.specs.Prelude.{◌≡◌, ◌≤◌, ◌<◌, ◌+◌, ◌*◌, ◌^◌, ℕ, [], get_or, length};
 ghost use Rattle.std.specs.List.{flat_map};
-ghost use Rattle.cc_ops.specs.Waiting.{line_limit};
+ghost use Rattle.cc_ops.specs.WaitingAsks.{line_limit};
 ghost use Rattle.std.specs.FinMap as table;
-ghost use Rattle.cc_wire.specs.Writing.{Writes};
-ghost use Rattle.cc_sides.specs.States.{membership_spelling, membership_of, pending_spelling, phase_spelling, ask_spelling, asks_spelling};
-ghost use Rattle.cc_sides.specs.States.{line_spelling, others_spelling};
+ghost use Rattle.cc_wire.specs.Writers.{Writes};
+ghost use Rattle.cc_states.specs.States.{membership_spelling, membership_of, pending_spelling, phase_spelling, ask_spelling, asks_spelling};
+ghost use Rattle.cc_states.specs.States.{line_spelling, others_spelling};
 ghost use Rattle.cc_states.specs.Parts.{own_spelling, operations_spelling, front_spelling, kept_parts, parts_of};
 
+use crate::layout::Layout;
 use crate::state_writer::{
     put_entering, put_kept_answer, put_link_table, put_membership, put_operations,
     put_session_table, put_stored,
@@ -17,7 +18,6 @@ use cc_messages::Message;
 use cc_node::{Core, Node};
 use cc_ops::{AskList, Asked, Ops, Pending, Stage};
 use cc_outbox::Outbox;
-use cc_sides::Layout;
 use cc_wire::{
     answer_len, changes_len, command_len, message_len, put_message, put_u16, put_u64, value_len,
     view_len,

@@ -5,15 +5,16 @@ ghost use Rattle.std.specs.Int.{w16, w64};
 ghost use Rattle.cc_views.specs.Limits.{session_limit};
 ghost use Rattle.cc_views.specs.Tables.{IsRising, table_of};
 ghost use Rattle.cc_wire.specs.Messages.{message_at};
-ghost use Rattle.cc_wire.specs.Reading.{number_at, view_at};
+ghost use Rattle.cc_wire.specs.Readers.{number_at, view_at};
 ghost use Rattle.cc_links.specs.Rows as links;
 ghost use Rattle.cc_sessions.specs.Rows as sessions;
 ghost use Rattle.cc_outbox.specs.Rows as answers;
-ghost use Rattle.cc_sides.specs.States.{membership_at, entering_at, round_at, table_at, link_at, session_at, kept_answer_at};
+ghost use Rattle.cc_states.specs.States.{membership_at, entering_at, round_at, table_at, link_at, session_at, kept_answer_at};
 ghost use Rattle.cc_states.specs.Fields.{membership_in, own_at, own_in, entering_in, round_in};
 ghost use Rattle.cc_states.specs.Sources.{Finds, failure_of};
 
 use crate::fields::{Entering, Membership, Own, Round};
+use crate::layout::Layout;
 use crate::source_fault::SourceFault;
 use crate::state_reader::{
     read_entering, read_kept_answer, read_link, read_membership, read_own, read_round,
@@ -23,7 +24,6 @@ use cc_links::LinkRow;
 use cc_messages::Message;
 use cc_outbox::KeptAnswer;
 use cc_sessions::SessionRow;
-use cc_sides::Layout;
 use cc_views::View;
 use cc_wire::Reader;
 use std::alloc::Global;

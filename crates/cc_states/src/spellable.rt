@@ -9,10 +9,10 @@ ghost use Rattle.cc_wire.specs.Messages.{IsMessage};
 ghost use Rattle.cc_links.specs.Rows as links;
 ghost use Rattle.cc_sessions.specs.Rows as sessions;
 ghost use Rattle.cc_outbox.specs.Rows as answers;
-ghost use Rattle.cc_sides.specs.Layouts.{layout_for};
-ghost use Rattle.cc_sides.specs.States.{IsFraction, IsMembership, membership_of, IsPending, IsPhase, IsAsk, AreAsks, IsLineOf, AreOthersOf, IsWork};
-ghost use Rattle.cc_sides.specs.States.{work_of, IsTableOf, IsLink, IsSession, IsKeptAnswer, IsKeptPosts, IsState, state_of, SpellsNode};
-ghost use Rattle.cc_sides.specs.States.{layout_of_node, node_spelling};
+ghost use Rattle.cc_states.specs.Layouts.{layout_for};
+ghost use Rattle.cc_states.specs.States.{IsFraction, IsMembership, membership_of, IsPending, IsPhase, IsAsk, AreAsks, IsLineOf, AreOthersOf, IsWork};
+ghost use Rattle.cc_states.specs.States.{work_of, IsTableOf, IsLink, IsSession, IsKeptAnswer, IsKeptPosts, IsState, state_of, SpellsNode};
+ghost use Rattle.cc_states.specs.States.{layout_of_node, node_spelling};
 
 use crate::parts::kept_post;
 use cc_changes::Fraction;

@@ -2,19 +2,19 @@
 
 ghost use Rattle.std.specs.Prelude.{◌≡◌, ◌≤◌, ◌+◌, ◌++◌, length, OnOk, OnErr, Ok, Err, IsOk, vec_len};
 ghost use Rattle.std.specs.Vec.{vec_capacity};
-ghost use Rattle.cc_wire.specs.Writing.{Writes};
+ghost use Rattle.cc_wire.specs.Writers.{Writes};
 ghost use Rattle.cc_node.specs.Node as machine;
-ghost use Rattle.cc_sides.specs.States.{SpellsNode, layout_of_node, node_spelling};
-ghost use Rattle.cc_states.specs.Decoding.{Decodes, Is, SpellsUnlawful};
+ghost use Rattle.cc_states.specs.States.{SpellsNode, layout_of_node, node_spelling};
+ghost use Rattle.cc_states.specs.Decoders.{Decodes, Is, SpellsUnlawful};
 ghost use Rattle.cc_states.specs.declared.fault.StateFault.TheVariants as faults;
 
 use crate::fault::StateFault;
 use crate::field_reader::read_all;
+use crate::layout::Layout;
 use crate::parts::{part_count, put_part};
-use crate::restoring::restore;
+use crate::restored_node::restore;
 use crate::spellable::node_is_spellable;
 use cc_node::Node;
-use cc_sides::Layout;
 use cc_views::NoMemory;
 use std::alloc::{AllocError, Global};
 

@@ -3,19 +3,20 @@
 ghost use Rattle.std.specs.Prelude.{◌≡◌, ◌≤◌, [], length, map, IfOk};
 ghost use Rattle.cc_views.specs.Limits.{session_limit};
 ghost use Rattle.cc_views.specs.Tables.{IsRising, table_of};
-ghost use Rattle.cc_wire.specs.Reading.{Gives, whole};
+ghost use Rattle.cc_wire.specs.Readers.{Gives, whole};
 ghost use Rattle.cc_ops.specs.Stages.{phase_of};
-ghost use Rattle.cc_ops.specs.Waiting.{line_limit};
+ghost use Rattle.cc_ops.specs.WaitingAsks.{line_limit};
 ghost use Rattle.cc_links.specs.Rows as links;
 ghost use Rattle.cc_sessions.specs.Rows as sessions;
 ghost use Rattle.cc_outbox.specs.Outbox.{post_limit};
 ghost use Rattle.cc_outbox.specs.Rows as answers;
-ghost use Rattle.cc_sides.specs.States.{fraction_at, membership_at, pending_at, phase_at, ask_at, asks_at, ask_list_at, line_at, share_at, others_at};
-ghost use Rattle.cc_sides.specs.States.{round_at, entering_at, work_at, rows_at, row_list_at, table_at, link_at, session_from, session_at};
-ghost use Rattle.cc_sides.specs.States.{kept_answer_at, posts_at, kept_at, most_rows, tables_at, state_at};
+ghost use Rattle.cc_states.specs.States.{fraction_at, membership_at, pending_at, phase_at, ask_at, asks_at, ask_list_at, line_at, share_at, others_at};
+ghost use Rattle.cc_states.specs.States.{round_at, entering_at, work_at, rows_at, row_list_at, table_at, link_at, session_from, session_at};
+ghost use Rattle.cc_states.specs.States.{kept_answer_at, posts_at, kept_at, most_rows, tables_at, state_at};
 ghost use Rattle.cc_states.specs.Fields.{membership_in, own_at, own_in, entering_in, round_in, work_in, tables_in, state_in, AreRead};
 
 use crate::fields::{Entering, Fields, Membership, Own, Round, Tables, Work};
+use crate::layout::Layout;
 use cc_changes::Fraction;
 use cc_links::LinkRow;
 use cc_messages::{Command, Message};
@@ -23,12 +24,11 @@ use cc_node::Opening;
 use cc_ops::{AskList, Asked, Pending, Stage};
 use cc_outbox::{KeptAnswer, Outbox};
 use cc_sessions::{SessionRow, Sessions};
-use cc_sides::Layout;
 use cc_views::View;
 use cc_wire::{Reader, WireFault};
 use std::alloc::Global;
 
-#[tactic(auto, unfolding(cc_sides::specs::States::fraction_at))]
+#[tactic(auto, unfolding(crate::specs::States::fraction_at))]
 fn read_fraction(reader: &mut Reader<'_>) -> Result<Fraction, WireFault>
     ensures { Gives (λ x. (x, reader.new)) result (fraction_at reader.old) }
 {
@@ -38,7 +38,7 @@ fn read_fraction(reader: &mut Reader<'_>) -> Result<Fraction, WireFault>
 }
 
 /// The first fields: id, shares and changes. The fault is that of the first that can't be read, here and in all that follow.
-#[tactic(auto, unfolding(cc_sides::specs::States::membership_at))]
+#[tactic(auto, unfolding(crate::specs::States::membership_at))]
 pub fn read_membership(alloc: Global, reader: &mut Reader<'_>) -> Result<Membership, WireFault>
     ensures { Gives (λ x. (membership_in x, reader.new)) result (membership_at reader.old) }
 {
@@ -54,7 +54,7 @@ pub fn read_membership(alloc: Global, reader: &mut Reader<'_>) -> Result<Members
     })
 }
 
-#[tactic(auto, unfolding(cc_sides::specs::States::pending_at))]
+#[tactic(auto, unfolding(crate::specs::States::pending_at))]
 fn read_pending(reader: &mut Reader<'_>) -> Result<Pending, WireFault>
     ensures { Gives (λ x. (x, reader.new)) result (pending_at reader.old) }
 {
@@ -75,7 +75,7 @@ fn read_pending(reader: &mut Reader<'_>) -> Result<Pending, WireFault>
 }
 
 // How far a pending operation has come, and what it stores back.
-#[tactic(auto, unfolding(cc_sides::specs::States::phase_at))]
+#[tactic(auto, unfolding(crate::specs::States::phase_at))]
 fn read_phase(alloc: Global, reader: &mut Reader<'_>) -> Result<(Stage, View), WireFault>
     ensures { Gives (λ x. (phase_of x.0 x.1, reader.new)) result (phase_at reader.old) }
 {
@@ -105,7 +105,7 @@ fn read_phase(alloc: Global, reader: &mut Reader<'_>) -> Result<(Stage, View), W
 }
 
 // The session, the request and the command of an ask.
-#[tactic(auto, unfolding(cc_sides::specs::States::ask_at))]
+#[tactic(auto, unfolding(crate::specs::States::ask_at))]
 fn read_ask(reader: &mut Reader<'_>) -> Result<(u64, u64, Command), WireFault>
     ensures { Gives (λ x. (record { session = x.0; request = x.1; command = x.2 }, reader.new)) result (ask_at reader.old) }
 {
@@ -131,7 +131,7 @@ fn read_asks(line: &mut AskList, reader: &mut Reader<'_>, count: u8) -> Result<(
     Ok(())
 }
 
-#[tactic(auto, unfolding(cc_sides::specs::States::ask_list_at))]
+#[tactic(auto, unfolding(crate::specs::States::ask_list_at))]
 fn read_ask_list(alloc: Global, reader: &mut Reader<'_>) -> Result<AskList, WireFault>
     ensures { Gives (λ x. (x, reader.new)) result (ask_list_at reader.old) }
 {
@@ -158,7 +158,7 @@ fn read_line(alloc: Global, reader: &mut Reader<'_>, layout: Layout) -> Result<A
 }
 
 // How many asks a round has at most, where that is more than one.
-#[tactic(auto, unfolding(cc_sides::specs::States::share_at))]
+#[tactic(auto, unfolding(crate::specs::States::share_at))]
 fn read_share(reader: &mut Reader<'_>) -> Result<usize, WireFault>
     ensures { Gives (λ x. (x, reader.new)) result (share_at reader.old) }
 {
@@ -230,7 +230,7 @@ pub fn read_entering(reader: &mut Reader<'_>) -> Result<Entering, WireFault>
 }
 
 /// A link, whose peer isn't below the least.
-#[tactic(auto, unfolding(cc_sides::specs::States::link_at))]
+#[tactic(auto, unfolding(crate::specs::States::link_at))]
 pub fn read_link(reader: &mut Reader<'_>, least: u64) -> Result<LinkRow, WireFault>
     requires { 1 ≤ least }
     ensures exact { Gives (λ x. (links.entry_of x, reader.new)) result (link_at least reader.old) }
@@ -248,7 +248,7 @@ pub fn read_link(reader: &mut Reader<'_>, least: u64) -> Result<LinkRow, WireFau
     })
 }
 
-#[tactic(auto, unfolding(cc_sides::specs::States::session_from))]
+#[tactic(auto, unfolding(crate::specs::States::session_from))]
 fn read_session_id(reader: &mut Reader<'_>, least: u128) -> Result<u64, WireFault>
     ensures exact { Gives (λ x. (x, reader.new)) result (session_from least reader.old) }
     ensures least { IfOk result (λ session. least ≤ session) }
@@ -260,7 +260,7 @@ fn read_session_id(reader: &mut Reader<'_>, least: u128) -> Result<u64, WireFaul
     Ok(session)
 }
 
-#[tactic(auto, unfolding(cc_sides::specs::States::session_at))]
+#[tactic(auto, unfolding(crate::specs::States::session_at))]
 fn read_session(reader: &mut Reader<'_>, least: u128) -> Result<SessionRow, WireFault>
     ensures exact { Gives (λ x. (sessions.entry_of x, reader.new)) result (session_at least reader.old) }
     ensures least { IfOk result (λ row. least ≤ row.session) }
@@ -271,7 +271,7 @@ fn read_session(reader: &mut Reader<'_>, least: u128) -> Result<SessionRow, Wire
 }
 
 /// An answer that is kept for a session, which isn't below the least.
-#[tactic(auto, unfolding(cc_sides::specs::States::kept_answer_at))]
+#[tactic(auto, unfolding(crate::specs::States::kept_answer_at))]
 pub fn read_kept_answer(
     alloc: Global,
     reader: &mut Reader<'_>,
@@ -305,7 +305,7 @@ fn read_sessions(
 }
 
 /// The sessions, each with its last request.
-#[tactic(auto, unfolding(cc_sides::specs::States::row_list_at))]
+#[tactic(auto, unfolding(crate::specs::States::row_list_at))]
 pub fn read_session_table(
     alloc: Global,
     reader: &mut Reader<'_>,

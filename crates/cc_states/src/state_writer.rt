@@ -2,22 +2,22 @@
 
 ghost use Rattle.std.specs.Prelude.{◌<◌, ◌^◌, ◌++◌, ◌∷◌};
 ghost use Rattle.std.specs.List.{flat_map};
-ghost use Rattle.cc_wire.specs.Writing.{Writes};
+ghost use Rattle.cc_wire.specs.Writers.{Writes};
 ghost use Rattle.cc_links.specs.Rows as links;
 ghost use Rattle.cc_sessions.specs.Rows as sessions;
 ghost use Rattle.cc_outbox.specs.Rows as answers;
-ghost use Rattle.cc_sides.specs.States.{fraction_spelling, membership_spelling, membership_of, counts_spelling, pending_spelling, phase_spelling};
-ghost use Rattle.cc_sides.specs.States.{ask_spelling, asks_spelling, line_spelling, others_spelling, stored_spelling, entering_spelling};
+ghost use Rattle.cc_states.specs.States.{fraction_spelling, membership_spelling, membership_of, counts_spelling, pending_spelling, phase_spelling};
+ghost use Rattle.cc_states.specs.States.{ask_spelling, asks_spelling, line_spelling, others_spelling, stored_spelling, entering_spelling};
 ghost use Rattle.cc_states.specs.Parts.{operations_spelling};
-ghost use Rattle.cc_sides.specs.States.{table_spelling, link_spelling, session_spelling, kept_answer_spelling};
+ghost use Rattle.cc_states.specs.States.{table_spelling, link_spelling, session_spelling, kept_answer_spelling};
 
+use crate::layout::Layout;
 use cc_changes::{Changes, Fraction};
 use cc_links::{LinkRow, Links};
 use cc_node::Core;
 use cc_ops::{AskList, Asked, Ops, Pending, Stage};
 use cc_outbox::KeptAnswer;
 use cc_sessions::{SessionRow, Sessions};
-use cc_sides::Layout;
 use cc_views::{NodeId, Value, View};
 use cc_wire::{
     put_answer, put_asked, put_changes, put_id, put_u8, put_u16, put_u32, put_u64, put_value,

@@ -8,7 +8,7 @@ use Rattle.base64.specs.Engines.{standard}
 use Rattle.base64.specs.GeneralPurpose.{IsBytes, decode_of, encode_of}
 use Rattle.base64.specs.declared.decode.DecodeError.{DecodeError}
 use Rattle.base64.proofs.EngineFacts.{decode_of-encode_of}
-use Rattle.cc_status.specs.Showing.{text_told}
+use Rattle.cc_status.specs.ShownNodes.{text_told}
 
 abbrev bytes_in : Result (List ℕ) DecodeError → List ℕ
 bytes_in (Ok b) = b

@@ -1,3 +1,9 @@
 pub mod Texts
-pub mod Showing
+pub mod ShownNodes
 pub mod Readiness
+pub mod Answers
+pub mod Events
+pub mod Lines
+pub mod Pages
+pub mod Requests
+pub mod Writers

@@ -2,7 +2,7 @@
 
 ghost use Rattle.std.specs.Prelude.{◌≡◌, ℕ, List};
 ghost use Rattle.base64.specs.GeneralPurpose.{IsBytes};
-ghost use Rattle.cc_status.specs.Showing.{text_told};
+ghost use Rattle.cc_status.specs.ShownNodes.{text_told};
 
 /// Texts of which the same is told are the same, whatever their bytes.
 pub fn texts_are_told_apart()

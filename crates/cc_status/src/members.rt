@@ -4,7 +4,7 @@ ghost use Rattle.std.specs.Prelude.{◌≡◌, ◌++◌, not, OnOk, map};
 ghost use Rattle.std.specs.List.{filter};
 ghost use Rattle.cc_views.specs.NatSets as set;
 ghost use Rattle.cc_sessions.specs.Rows as sessions;
-ghost use Rattle.cc_status.specs.Showing.{told_session, session_told};
+ghost use Rattle.cc_status.specs.ShownNodes.{told_session, session_told};
 
 use crate::status::SessionStatus;
 use crate::wide::Wide;

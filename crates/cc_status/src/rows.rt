@@ -2,7 +2,7 @@
 
 ghost use Rattle.std.specs.Prelude.{◌≡◌, ◌++◌, ◌∷◌, [], map, IfOk, OnOk};
 ghost use Rattle.cc_views.specs.Rows.{rows_of};
-ghost use Rattle.cc_status.specs.Showing.{told_row, row_told};
+ghost use Rattle.cc_status.specs.ShownNodes.{told_row, row_told};
 
 use crate::status::RowStatus;
 use crate::texts::{ShownText, shown_text};

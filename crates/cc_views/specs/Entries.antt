@@ -10,7 +10,7 @@ use Rattle.std.specs.Ordering.{nat_cmp, is_lt}
 use Rattle.std.specs.Cmp.{ranked, nat_cmp_is, nat_cmp_total}
 use Rattle.std.specs.FinMap as map
 use Rattle.std.specs.FinMap.Entries.{find, put, below_all, is_sorted}
-use Rattle.cc_views.specs.Ascending.{IsAscending}
+use Rattle.cc_views.specs.AscendingLists.{IsAscending}
 
 pub cmp_lt : (a b : ℕ) → a < b → nat_cmp a b ≡ Less
 cmp_lt a b h = sym (nat_cmp_is a b Less h)

@@ -1,4 +1,4 @@
-pub mod Ascending
+pub mod AscendingLists
 pub mod Entries
 pub mod MapLaws
 pub mod Tables

@@ -15,7 +15,7 @@ use Rattle.std.proofs.lemmas.Bool.{eqb-true}
 use Rattle.std.proofs.lemmas.Bool.Decides.{nat_tests}
 use Rattle.std.proofs.lemmas.List.{length-map}
 use Rattle.std.proofs.lemmas.List.Sums.{length-filter}
-use Rattle.cc_views.specs.Ascending.{IsAscending}
+use Rattle.cc_views.specs.AscendingLists.{IsAscending}
 use Rattle.cc_views.specs.Entries.{from_T, ascending_of_sorted, sorted_of_ascending}
 use Rattle.cc_views.specs.MapLaws.{len_insert, insert_there}
 use Rattle.cc_views.specs.Tables.{IsRising, IsAt, table_of, entries-table_of, get-at, rising-push}

@@ -24,7 +24,7 @@ use Rattle.std.proofs.lemmas.Bool.Decides.{nat_tests}
 use Rattle.std.proofs.lemmas.Cmp.{ranked}
 use Rattle.std.proofs.lemmas.List.{length-append, length-map, length-set, map-set, map_push}
 use Rattle.std.proofs.lemmas.List.Edits.{length-insert, length-remove}
-use Rattle.cc_views.specs.Ascending.{IsAscending}
+use Rattle.cc_views.specs.AscendingLists.{IsAscending}
 use Rattle.cc_views.specs.Entries.{cmp_lt, cmp_eq, cmp_gt, and_left, and_right, to_T, from_T, lt_from_cmp, ascending_of_sorted, sorted_of_ascending}
 use Rattle.cc_views.specs.Entries.{below_at, rises, put_at, put_gap, find_at, find_none, entries_back}
 

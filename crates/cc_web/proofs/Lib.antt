@@ -5,3 +5,9 @@ mod OwnChoices
 mod OwnLaws
 mod Pieces
 mod Texts
+mod Endings
+mod RoundLemmas
+mod ServiceLemmas
+mod StepLemmas
+mod HttpTexts
+mod ResponseEnds

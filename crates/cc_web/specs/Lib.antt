@@ -15,3 +15,12 @@ pub mod Retries
 pub mod Statuses
 pub mod Timeouts
 pub mod Words
+pub mod Conducts
+pub mod Replies
+pub mod Requests
+pub mod HttpResponses
+pub mod Rounds
+pub mod Services
+pub mod Steps
+pub mod Trials
+pub mod LastResponse

@@ -2,7 +2,7 @@
 use Rattle.std.proofs.Common.{◌≡◌, ℕ, cond, eqb, List, [], ◌∷◌, ◌++◌, Ok, refl}
 use Rattle.cc_messages.specs.declared.answer.Answer.{Answer}
 use Rattle.cc_messages.specs.declared.answer.Answer.TheVariants.{Stored, Seen, Max, Flag, Set}
-use Rattle.cc_wire.specs.Reading.{Reading, via}
+use Rattle.cc_wire.specs.Readers.{Reading, via}
 use Rattle.cc_wire.specs.Answers.{answer_spelling, IsAnswer, answer_fields, answer_at}
 use Rattle.cc_wire.proofs.Spelled.{IsBytes, Takes, Spelled, nothing_spelled, kind_or, kinded_takes}
 use Rattle.cc_wire.proofs.Formats.{u64_spelled, flag_spelled, number_list_spelled, view_spelled}

@@ -2,7 +2,7 @@
 use Rattle.std.proofs.Common.{◌≡◌, ℕ, cond, eqb, List, [], ◌∷◌, ◌++◌, Ok, refl}
 use Rattle.cc_messages.specs.declared.command.Command.{Command}
 use Rattle.cc_messages.specs.declared.command.Command.TheVariants.{Store, Collect, WriteMax, ReadMax, SetFlag, ReadFlag, AddMember, ReadSet}
-use Rattle.cc_wire.specs.Reading.{Reading, via}
+use Rattle.cc_wire.specs.Readers.{Reading, via}
 use Rattle.cc_wire.specs.Commands.{command_spelling, IsCommand, command_fields, command_at}
 use Rattle.cc_wire.proofs.Spelled.{IsBytes, Takes, Spelled, nothing_spelled, kind_or, kinded_takes}
 use Rattle.cc_wire.proofs.Formats.{text_spelled, u32_spelled, u64_spelled}

@@ -2,7 +2,7 @@
 use Rattle.std.proofs.Common.{◌≡◌, ℕ, cond, eqb, List, [], ◌∷◌, ◌++◌, Ok, refl}
 use Rattle.cc_messages.specs.declared.event.Event.{Event}
 use Rattle.cc_messages.specs.declared.event.Event.TheVariants.{Enter, Leave, Deliver, Acked, Ask, Retire, Lapse, Snapshot, Skip, Share}
-use Rattle.cc_wire.specs.Reading.{Reading, via}
+use Rattle.cc_wire.specs.Readers.{Reading, via}
 use Rattle.cc_wire.specs.Events.{numbered_spelling, IsNumbered, numbered_at, delivery_spelling, IsDelivery, delivery_at, place_spelling, IsPlace}
 use Rattle.cc_wire.specs.Events.{place_at, asked_spelling, IsAsked, asked_at, event_spelling, IsEvent, event_fields, event_at}
 use Rattle.cc_wire.specs.Events.{skip_spelling, IsSkip, skip_at}

@@ -6,7 +6,7 @@ use Rattle.std.specs.List.{flat_map, AllByRecursion}
 use Rattle.std.specs.FinMap as map
 use Rattle.std.proofs.lemmas.Bool.{ltb-false, le-ltb}
 use Rattle.std.proofs.lemmas.Nat.{be_bytes_2, be_bytes_4, be_bytes_8, from_be_bytes-to_be_bytes_2, from_be_bytes-to_be_bytes_4, from_be_bytes-to_be_bytes_8}
-use Rattle.cc_views.specs.Ascending.{IsAscending}
+use Rattle.cc_views.specs.AscendingLists.{IsAscending}
 use Rattle.cc_views.specs.NatSets.{NatSet, from_list, items}
 use Rattle.cc_views.specs.NatLists.{items_ascending, items-from_list, from_list-items}
 use Rattle.cc_changes.specs.ChangeSets.{ChangeSets}
@@ -20,13 +20,13 @@ use Rattle.cc_views.specs.Tables.{IsRising, keys_ascend, rising_of_keys}
 use Rattle.cc_views.specs.Entries.{from_T}
 use Rattle.cc_views.proofs.Absorbs.{rows_back}
 use Rattle.cc_wire.specs.declared.fault.WireFault.TheVariants.{BadKind, NotAscending, TooLarge}
-use Rattle.cc_wire.specs.Reading.{Reading, via, byte_at, number_at, limited, number_from, flag_with, flag_at, text_at, numbers_at, number_set_at}
-use Rattle.cc_wire.specs.Reading.{number_list_at, listed_at, value_with, value_at, row_with, row_at, row_list_at, view_with, view_at, id_set_at}
-use Rattle.cc_wire.specs.Reading.{changes_with, changes_at, wide_from, range_with, range_at, ask_share_at}
+use Rattle.cc_wire.specs.Readers.{Reading, via, byte_at, number_at, limited, number_from, flag_with, flag_at, text_at, numbers_at, number_set_at}
+use Rattle.cc_wire.specs.Readers.{number_list_at, listed_at, value_with, value_at, row_with, row_at, row_list_at, view_with, view_at, id_set_at}
+use Rattle.cc_wire.specs.Readers.{changes_with, changes_at, wide_from, range_with, range_at, ask_share_at}
 use Rattle.cc_wire.specs.Events.{range_spelling}
-use Rattle.cc_wire.specs.Spelling.{text_spelling, IsText, flag_spelling, number_spelling, number_set_spelling, IsNumberSet, value_spelling, IsValue}
-use Rattle.cc_wire.specs.Spelling.{row_spelling, IsRow, view_spelling, IsView, number_list_spelling, IsNumberList, id_set_spelling, IsId, IsIdSet}
-use Rattle.cc_wire.specs.Spelling.{changes_spelling, IsChanges}
+use Rattle.cc_wire.specs.Spellings.{text_spelling, IsText, flag_spelling, number_spelling, number_set_spelling, IsNumberSet, value_spelling, IsValue}
+use Rattle.cc_wire.specs.Spellings.{row_spelling, IsRow, view_spelling, IsView, number_list_spelling, IsNumberList, id_set_spelling, IsId, IsIdSet}
+use Rattle.cc_wire.specs.Spellings.{changes_spelling, IsChanges}
 use Rattle.cc_wire.proofs.Spelled.{IsBytes, bind_ok, guard_ok, ok_is, Takes, Spelled, both, as_fields, as_facts, tested, counted, IsRun, items_spelled, byte_spelled}
 use Rattle.cc_wire.proofs.Spelled.{bytes_spelled, IsWide, number_spelled}
 use Rattle.cc_wire.proofs.Views.{len-rows_of, view_of_rows, entries_of_rows}

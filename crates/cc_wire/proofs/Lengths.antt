@@ -17,9 +17,9 @@ use Rattle.cc_messages.specs.declared.answer.Answer.{Answer}
 use Rattle.cc_messages.specs.declared.answer.Answer.TheVariants as answers
 use Rattle.cc_messages.specs.declared.event.Event.{Event}
 use Rattle.cc_messages.specs.declared.event.Event.TheVariants as events
-use Rattle.cc_wire.specs.Spelling.{text_spelling, IsText, flag_spelling, number_spelling, number_set_spelling, IsNumberSet, value_spelling, IsValue}
-use Rattle.cc_wire.specs.Spelling.{row_spelling, IsRow, view_spelling, IsView, listed_spelling, number_list_spelling, IsNumberList, id_set_spelling}
-use Rattle.cc_wire.specs.Spelling.{IsIdSet, changes_spelling, IsChanges}
+use Rattle.cc_wire.specs.Spellings.{text_spelling, IsText, flag_spelling, number_spelling, number_set_spelling, IsNumberSet, value_spelling, IsValue}
+use Rattle.cc_wire.specs.Spellings.{row_spelling, IsRow, view_spelling, IsView, listed_spelling, number_list_spelling, IsNumberList, id_set_spelling}
+use Rattle.cc_wire.specs.Spellings.{IsIdSet, changes_spelling, IsChanges}
 use Rattle.cc_wire.specs.Messages.{call_spelling, echo_spelling, IsEcho, snapshot_spelling, IsSnapshot, message_spelling, IsMessage}
 use Rattle.cc_wire.specs.Commands.{command_spelling, IsCommand}
 use Rattle.cc_wire.specs.Answers.{answer_spelling, IsAnswer}

@@ -3,7 +3,7 @@ use Rattle.std.proofs.Common.{◌≡◌, ℕ, cond, eqb, List, [], ◌∷◌, �
 use Rattle.cc_messages.specs.declared.message.Message.{Message}
 use Rattle.cc_messages.specs.declared.message.Message.TheVariants.{Enter, EnterEcho, Join, JoinEcho, Leave, LeaveEcho, Query, QueryReply, Store}
 use Rattle.cc_messages.specs.declared.message.Message.TheVariants.{StoreAck, Snapshot}
-use Rattle.cc_wire.specs.Reading.{Reading, via}
+use Rattle.cc_wire.specs.Readers.{Reading, via}
 use Rattle.cc_wire.specs.Messages.{call_spelling, IsCall, echo_spelling, IsEcho, message_spelling, IsMessage, snapshot_spelling, IsSnapshot, call_at}
 use Rattle.cc_wire.specs.Messages.{echo_at, snapshot_at, fields_of, message_at}
 use Rattle.cc_wire.proofs.Spelled.{IsBytes, Takes, Spelled, both, as_facts, kind_or, kinded_takes}

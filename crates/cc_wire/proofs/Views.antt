@@ -1,7 +1,7 @@
 -- The rows of a view make the view.
 use Rattle.std.specs.Int.{w16}
 use Rattle.std.proofs.lemmas.Bool.{le-ltb}
-use Rattle.cc_wire.specs.Reading.{number_at, rows_at, row_list_at, view_at}
+use Rattle.cc_wire.specs.Readers.{number_at, rows_at, row_list_at, view_at}
 use Rattle.std.proofs.Common.{◌≡◌, ◌≤◌, ltb, false, Ok, ℕ, List, [], ◌∷◌, length, map as list_map, refl, sym, ap, ◌∙◌}
 use Rattle.std.specs.Ordering.{nat_cmp}
 use Rattle.std.specs.FinMap as map

@@ -5,8 +5,8 @@ use Rattle.std.proofs.lemmas.Bool.{eqb-true}
 use Rattle.std.proofs.lemmas.List.{append-nil, nil_from_length}
 use Rattle.cc_wire.specs.declared.fault.WireFault.{WireFault}
 use Rattle.cc_wire.specs.declared.fault.WireFault.TheVariants.{Short, BadKind, NotAscending, TooLarge, Trailing, NoMemory, Broken}
-use Rattle.cc_wire.specs.Reading.{◌>>=◌, Reading, Gives, TakesNoMemory, ended, whole}
-use Rattle.cc_wire.specs.Spelling.{Spells}
+use Rattle.cc_wire.specs.Readers.{◌>>=◌, Reading, Gives, TakesNoMemory, ended, whole}
+use Rattle.cc_wire.specs.Spellings.{Spells}
 use Rattle.cc_wire.proofs.Spelled.{IsBytes, bind_ok, ok_is, Spelled}
 
 is_ended : (b : Bool) (u : Unit {0}) (d : WireFault) → cond b (Ok tt) (Err d) ≡ Ok u → b ≡ true

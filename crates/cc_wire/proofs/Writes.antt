@@ -7,7 +7,7 @@ use Rattle.std.proofs.Common.{◌∙◌, append_assoc, arith}
 use Rattle.std.specs.Global.{Vec}
 use Rattle.std.specs.declared.alloc.AllocError.{AllocError}
 use Rattle.std.proofs.lemmas.List.{take_at, take-take, take_more, length-append, append-nil}
-use Rattle.cc_wire.specs.Writing.{Writes}
+use Rattle.cc_wire.specs.Writers.{Writes}
 
 pub writes_then : (old mid new : Vec ℕ) (a b : List ℕ) (r : Result (Unit {0}) AllocError) → Writes old mid a (Ok tt) → Writes mid new b r
     → Writes old new (a ++ b) r

@@ -4,8 +4,8 @@ use Rattle.std.specs.Int.{w64, to_be_bytes}
 use Rattle.cc_wire.specs.declared.fault.WireFault.TheVariants.{BadKind}
 use Rattle.cc_messages.specs.declared.answer.Answer.{Answer}
 use Rattle.cc_messages.specs.declared.answer.Answer.TheVariants.{Stored, Seen, Max, Flag, Set}
-use Rattle.cc_wire.specs.Reading.{Reading, via, nothing_at, kinded, number_at, flag_at, number_list_at, view_at}
-use Rattle.cc_wire.specs.Spelling.{Spells, flag_spelling, number_list_spelling, IsNumberList, view_spelling, IsView}
+use Rattle.cc_wire.specs.Readers.{Reading, via, nothing_at, kinded, number_at, flag_at, number_list_at, view_at}
+use Rattle.cc_wire.specs.Spellings.{Spells, flag_spelling, number_list_spelling, IsNumberList, view_spelling, IsView}
 
 abbrev pub answer_spelling : Answer → List ℕ
 answer_spelling Stored = 1 ∷ []

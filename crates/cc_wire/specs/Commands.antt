@@ -4,8 +4,8 @@ use Rattle.std.specs.Int.{w32, w64, to_be_bytes}
 use Rattle.cc_wire.specs.declared.fault.WireFault.TheVariants.{BadKind}
 use Rattle.cc_messages.specs.declared.command.Command.{Command}
 use Rattle.cc_messages.specs.declared.command.Command.TheVariants.{Store, Collect, WriteMax, ReadMax, SetFlag, ReadFlag, AddMember, ReadSet}
-use Rattle.cc_wire.specs.Reading.{Reading, via, nothing_at, kinded, number_at, text_at}
-use Rattle.cc_wire.specs.Spelling.{Spells, text_spelling, IsText}
+use Rattle.cc_wire.specs.Readers.{Reading, via, nothing_at, kinded, number_at, text_at}
+use Rattle.cc_wire.specs.Spellings.{Spells, text_spelling, IsText}
 
 abbrev pub command_spelling : Command → List ℕ
 command_spelling (Store text) = 1 ∷ text_spelling text

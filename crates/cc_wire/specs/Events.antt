@@ -8,8 +8,8 @@ use Rattle.cc_messages.specs.Ranges.{Range, IsRange}
 use Rattle.cc_messages.specs.Shares.{IsAskShare}
 use Rattle.cc_messages.specs.declared.event.Event.{Event}
 use Rattle.cc_messages.specs.declared.event.Event.TheVariants.{Enter, Leave, Deliver, Acked, Ask, Retire, Lapse, Snapshot, Skip, Share}
-use Rattle.cc_wire.specs.Reading.{Reading, ◌⊗◌, via, nothing_at, kinded, number_at, number_from, range_at, ask_share_at}
-use Rattle.cc_wire.specs.Spelling.{Spells, IsId}
+use Rattle.cc_wire.specs.Readers.{Reading, ◌⊗◌, via, nothing_at, kinded, number_at, number_from, range_at, ask_share_at}
+use Rattle.cc_wire.specs.Spellings.{Spells, IsId}
 use Rattle.cc_wire.specs.Messages.{message_spelling, IsMessage, message_at}
 use Rattle.cc_wire.specs.Commands.{command_spelling, IsCommand, command_at}
 

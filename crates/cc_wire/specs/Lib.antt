@@ -1,6 +1,6 @@
-pub mod Reading
-pub mod Writing
-pub mod Spelling
+pub mod Readers
+pub mod Writers
+pub mod Spellings
 pub mod Messages
 pub mod Commands
 pub mod Answers

@@ -7,8 +7,8 @@ use Rattle.cc_wire.specs.declared.fault.WireFault.TheVariants.{BadKind}
 use Rattle.cc_messages.specs.declared.message.Message.{Message}
 use Rattle.cc_messages.specs.declared.message.Message.TheVariants.{Enter, EnterEcho, Join, JoinEcho, Leave, LeaveEcho, Query, QueryReply, Store}
 use Rattle.cc_messages.specs.declared.message.Message.TheVariants.{StoreAck, Snapshot}
-use Rattle.cc_wire.specs.Reading.{Reading, ◌⊗◌, via, kinded, number_at, number_from, flag_at, view_at, changes_at}
-use Rattle.cc_wire.specs.Spelling.{Spells, view_spelling, IsView, flag_spelling, changes_spelling, IsChanges, IsId}
+use Rattle.cc_wire.specs.Readers.{Reading, ◌⊗◌, via, kinded, number_at, number_from, flag_at, view_at, changes_at}
+use Rattle.cc_wire.specs.Spellings.{Spells, view_spelling, IsView, flag_spelling, changes_spelling, IsChanges, IsId}
 
 -- a tag and a node
 abbrev pub call_spelling : ℕ → ℕ → List ℕ

@@ -2,8 +2,8 @@
 
 ghost use Rattle.std.specs.Prelude.{◌≡◌, ◌≤◌, ◌+◌, ℕ, List, [], ◌++◌, length, IfOk, OnOk, OnErr, IsOk, Ok, vec_len};
 ghost use Rattle.std.specs.Vec.{vec_capacity};
-ghost use Rattle.cc_wire.specs.Writing.{Writes};
-ghost use Rattle.cc_wire.specs.Reading.{Gives, whole};
+ghost use Rattle.cc_wire.specs.Writers.{Writes};
+ghost use Rattle.cc_wire.specs.Readers.{Gives, whole};
 ghost use Rattle.cc_wire.specs.Answers.{answer_at, answer_spelling, IsAnswer, SpellsAnswer};
 
 use crate::fault::WireFault;
@@ -57,7 +57,7 @@ pub fn put_answer(out: &mut Vec<u8>, answer: &Answer) -> Result<(), AllocError>
     }
 }
 
-#[tactic(auto, unfolding(crate::specs::Reading::whole))]
+#[tactic(auto, unfolding(crate::specs::Readers::whole))]
 fn decode_all(alloc: Global, bytes: &[u8]) -> Result<Answer, WireFault>
     ensures { Gives (λ x. x) result (whole answer_at bytes.now) }
 {

@@ -4,9 +4,9 @@ ghost use Rattle.std.specs.Prelude.{◌≡◌, ◌≤◌, [], ◌++◌, length, 
 ghost use Rattle.std.specs.List.{flat_map, AllByRecursion};
 ghost use Rattle.cc_views.specs.NatSets.{items};
 ghost use Rattle.cc_views.specs.Limits.{known_limit};
-ghost use Rattle.cc_wire.specs.Writing.{Writes};
-ghost use Rattle.cc_wire.specs.Spelling.{number_spelling, listed_spelling, IsId, changes_spelling, IsChanges};
-ghost use Rattle.cc_wire.specs.Reading.{Gives, numbers_at, id_set_at, changes_at};
+ghost use Rattle.cc_wire.specs.Writers.{Writes};
+ghost use Rattle.cc_wire.specs.Spellings.{number_spelling, listed_spelling, IsId, changes_spelling, IsChanges};
+ghost use Rattle.cc_wire.specs.Readers.{Gives, numbers_at, id_set_at, changes_at};
 
 use crate::fault::WireFault;
 use crate::reader::Reader;
@@ -16,7 +16,7 @@ use cc_views::NodeId;
 use std::alloc::{AllocError, Global};
 
 impl<'a> Reader<'a> {
-    #[tactic(auto, unfolding(crate::specs::Reading::id_set_at, crate::specs::Reading::listed_at))]
+    #[tactic(auto, unfolding(crate::specs::Readers::id_set_at, crate::specs::Readers::listed_at))]
     fn id_set(&mut self, alloc: Global) -> Result<IdSet, WireFault>
         ensures { Gives (λ x. (x, self.new)) result (id_set_at self.old) }
     {
@@ -30,7 +30,7 @@ impl<'a> Reader<'a> {
     }
 
     /// Who entered, joined and left: three lists of ids. TooLarge above 256, NotAscending where ids don't rise from 1 on.
-    #[tactic(auto, unfolding(crate::specs::Reading::changes_at))]
+    #[tactic(auto, unfolding(crate::specs::Readers::changes_at))]
     pub fn changes(&mut self, alloc: Global) -> Result<Changes, WireFault>
         ensures { Gives (λ x. (x, self.new)) result (changes_at self.old) }
     {

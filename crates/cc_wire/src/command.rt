@@ -2,8 +2,8 @@
 
 ghost use Rattle.std.specs.Prelude.{◌≡◌, ◌≤◌, ◌+◌, ℕ, List, [], ◌++◌, length, IfOk, OnOk, OnErr, IsOk, Ok, vec_len};
 ghost use Rattle.std.specs.Vec.{vec_capacity};
-ghost use Rattle.cc_wire.specs.Writing.{Writes};
-ghost use Rattle.cc_wire.specs.Reading.{Gives, TakesNoMemory, whole};
+ghost use Rattle.cc_wire.specs.Writers.{Writes};
+ghost use Rattle.cc_wire.specs.Readers.{Gives, TakesNoMemory, whole};
 ghost use Rattle.cc_wire.specs.Commands.{command_at, command_spelling, IsCommand, SpellsCommand};
 
 use crate::fault::WireFault;
@@ -68,7 +68,7 @@ pub(crate) fn put_command(out: &mut Vec<u8>, command: &Command) -> Result<(), Al
     }
 }
 
-#[tactic(auto, unfolding(crate::specs::Reading::whole))]
+#[tactic(auto, unfolding(crate::specs::Readers::whole))]
 fn decode_all(bytes: &[u8]) -> Result<Command, WireFault>
     ensures exact { Gives (λ x. x) result (whole command_at bytes.now) }
     ensures free { TakesNoMemory result }

@@ -4,8 +4,8 @@ ghost use Rattle.std.specs.Prelude.{◌≡◌, ◌≤◌, ◌+◌, ℕ, List, []
 ghost use Rattle.std.specs.Int.{w64, to_be_bytes};
 ghost use Rattle.std.specs.Vec.{vec_capacity};
 ghost use Rattle.cc_messages.specs.Shares.{IsAskShare};
-ghost use Rattle.cc_wire.specs.Writing.{Writes};
-ghost use Rattle.cc_wire.specs.Reading.{Gives, whole};
+ghost use Rattle.cc_wire.specs.Writers.{Writes};
+ghost use Rattle.cc_wire.specs.Readers.{Gives, whole};
 ghost use Rattle.cc_wire.specs.Events.{numbered_spelling, IsNumbered, delivery_spelling, IsDelivery, asked_spelling, IsAsked, place_spelling};
 ghost use Rattle.cc_wire.specs.Events.{IsPlace, event_at, event_fields, numbered_at, delivery_at, place_at, asked_at, event_spelling, IsEvent};
 ghost use Rattle.cc_wire.specs.Events.{SpellsEvent, skip_spelling, IsSkip, skip_at};
@@ -235,7 +235,7 @@ pub(crate) fn put_event(out: &mut Vec<u8>, event: &Event) -> Result<(), AllocErr
     }
 }
 
-#[tactic(auto, unfolding(crate::specs::Reading::whole))]
+#[tactic(auto, unfolding(crate::specs::Readers::whole))]
 fn decode_all(alloc: Global, bytes: &[u8]) -> Result<Event, WireFault>
     ensures { Gives (λ x. x) result (whole event_at bytes.now) }
 {

@@ -3,6 +3,7 @@
 #![tactic(auto)]
 
 mod answer;
+mod ascending_set;
 mod changes_bytes;
 mod command;
 mod event;
@@ -10,7 +11,6 @@ mod fault;
 mod message;
 mod number_list;
 mod reader;
-mod rising;
 mod sizes;
 mod spellable;
 mod spelling_lengths;

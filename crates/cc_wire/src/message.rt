@@ -2,12 +2,12 @@
 
 ghost use Rattle.std.specs.Prelude.{◌≡◌, ◌≤◌, ◌+◌, ℕ, List, [], ◌∷◌, ◌++◌, length, IfOk, OnOk, OnErr, IsOk, Ok, vec_len};
 ghost use Rattle.std.specs.Vec.{vec_capacity};
-ghost use Rattle.cc_wire.specs.Writing.{Writes};
-ghost use Rattle.cc_wire.specs.Reading.{◌⊗◌, Gives, via, flag_at, number_from, view_at, whole};
+ghost use Rattle.cc_wire.specs.Writers.{Writes};
+ghost use Rattle.cc_wire.specs.Readers.{◌⊗◌, Gives, via, flag_at, number_from, view_at, whole};
 ghost use Rattle.cc_messages.specs.declared.message.Message.TheVariants as variants;
 ghost use Rattle.cc_wire.specs.Messages.{message_at, fields_of, call_at, echo_at, snapshot_at, message_spelling, IsMessage, SpellsMessage};
 ghost use Rattle.cc_wire.specs.Messages.{call_spelling, IsCall, echo_spelling, IsEcho, snapshot_spelling, IsSnapshot};
-ghost use Rattle.cc_wire.specs.Spelling.{view_spelling, IsView, number_spelling, IsId};
+ghost use Rattle.cc_wire.specs.Spellings.{view_spelling, IsView, number_spelling, IsId};
 
 use crate::changes_bytes::{put_changes, put_id};
 use crate::fault::WireFault;
@@ -140,7 +140,7 @@ impl<'a> Reader<'a> {
     }
 }
 
-#[tactic(auto, unfolding(crate::specs::Reading::whole))]
+#[tactic(auto, unfolding(crate::specs::Readers::whole))]
 fn decode_all(alloc: Global, bytes: &[u8]) -> Result<Message, WireFault>
     ensures { Gives (λ m. m) result (whole message_at bytes.now) }
 {

@@ -3,12 +3,12 @@
 ghost use Rattle.std.specs.Prelude.{◌≡◌, ◌≤◌, ◌<◌, ◌++◌, ◌∷◌, [], length, IfOk, OnOk};
 ghost use Rattle.std.specs.List.{AllByRecursion};
 ghost use Rattle.std.specs.Vec.{vec_capacity};
-ghost use Rattle.cc_views.specs.Ascending.{IsAscending};
+ghost use Rattle.cc_views.specs.AscendingLists.{IsAscending};
 ghost use Rattle.cc_views.specs.NatSets.{from_list, items};
 ghost use Rattle.cc_messages.specs.Limits.{list_limit};
-ghost use Rattle.cc_wire.specs.Writing.{Writes};
-ghost use Rattle.cc_wire.specs.Reading.{Gives, numbers_at, number_list_at};
-ghost use Rattle.cc_wire.specs.Spelling.{number_list_spelling, IsNumberList};
+ghost use Rattle.cc_wire.specs.Writers.{Writes};
+ghost use Rattle.cc_wire.specs.Readers.{Gives, numbers_at, number_list_at};
+ghost use Rattle.cc_wire.specs.Spellings.{number_list_spelling, IsNumberList};
 
 use crate::fault::WireFault;
 use crate::reader::Reader;
@@ -17,7 +17,7 @@ use cc_messages::NumberList;
 use std::alloc::{AllocError, Global};
 
 impl<'a> Reader<'a> {
-    #[tactic(auto, unfolding(crate::specs::Reading::number_list_at, crate::specs::Reading::listed_at))]
+    #[tactic(auto, unfolding(crate::specs::Readers::number_list_at, crate::specs::Readers::listed_at))]
     pub(crate) fn number_list(&mut self, alloc: Global) -> Result<NumberList, WireFault>
         ensures { Gives (λ x. (x, self.new)) result (number_list_at self.old) }
     {

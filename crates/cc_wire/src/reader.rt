@@ -2,8 +2,8 @@
 
 ghost use Rattle.std.specs.Prelude.{◌≡◌, ◌≤◌, IfOk, length, take};
 ghost use Rattle.std.specs.Int.{w16, w32, w64};
-ghost use Rattle.cc_wire.specs.Reading.{Gives, TakesNoMemory, byte_at, bytes_at, number_at, number_from, wide_from, range_at, flag_at, ended};
-ghost use Rattle.cc_wire.specs.Reading.{ask_share_at};
+ghost use Rattle.cc_wire.specs.Readers.{Gives, TakesNoMemory, byte_at, bytes_at, number_at, number_from, wide_from, range_at, flag_at, ended};
+ghost use Rattle.cc_wire.specs.Readers.{ask_share_at};
 
 use crate::fault::WireFault;
 use cc_messages::{PostRange, Share};
@@ -98,7 +98,7 @@ impl<'a> Reader<'a> {
     }
 
     /// A number of an ascending list, which is at least `least`.
-    #[tactic(auto, unfolding(crate::specs::Reading::number_from))]
+    #[tactic(auto, unfolding(crate::specs::Readers::number_from))]
     pub(crate) fn u32_from(&mut self, least: u64) -> Result<u32, WireFault>
         ensures exact { Gives (λ x. (x, self.new)) result (number_from least self.old) }
         ensures least { IfOk result (λ x. least ≤ x) }
@@ -110,7 +110,7 @@ impl<'a> Reader<'a> {
         Ok(number)
     }
 
-    #[tactic(auto, unfolding(crate::specs::Reading::wide_from))]
+    #[tactic(auto, unfolding(crate::specs::Readers::wide_from))]
     fn u64_from(&mut self, least: u64) -> Result<u64, WireFault>
         ensures exact { Gives (λ x. (x, self.new)) result (wide_from least self.old) }
         ensures least { IfOk result (λ x. least ≤ x) }
@@ -123,7 +123,7 @@ impl<'a> Reader<'a> {
     }
 
     /// The first and the last of some posts, in eight bytes each. NotAscending where the first is 0, or the last is below it.
-    #[tactic(auto, unfolding(crate::specs::Reading::range_at))]
+    #[tactic(auto, unfolding(crate::specs::Readers::range_at))]
     pub fn range(&mut self) -> Result<PostRange, WireFault>
         ensures { Gives (λ x. (x, self.new)) result (range_at self.old) }
     {
@@ -133,7 +133,7 @@ impl<'a> Reader<'a> {
     }
 
     /// How many asks may begin together, in one byte. BadKind where that is 0 or above 32.
-    #[tactic(auto, unfolding(crate::specs::Reading::ask_share_at))]
+    #[tactic(auto, unfolding(crate::specs::Readers::ask_share_at))]
     pub fn share(&mut self) -> Result<Share, WireFault>
         ensures { Gives (λ x. (x, self.new)) result (ask_share_at self.old) }
     {
@@ -151,7 +151,7 @@ impl<'a> Reader<'a> {
         Ok(NodeId::new(number).unwrap())
     }
 
-    #[tactic(auto, unfolding(crate::specs::Reading::flag_at))]
+    #[tactic(auto, unfolding(crate::specs::Readers::flag_at))]
     pub(crate) fn flag(&mut self) -> Result<bool, WireFault>
         ensures { Gives (λ x. (x, self.new)) result (flag_at self.old) }
     {
@@ -163,7 +163,7 @@ impl<'a> Reader<'a> {
     }
 
     /// Wants no byte to be left. Trailing where there is one.
-    #[tactic(auto, unfolding(crate::specs::Reading::ended))]
+    #[tactic(auto, unfolding(crate::specs::Readers::ended))]
     pub fn end(&self) -> Result<(), WireFault>
         ensures exact { Gives (λ _. tt) result (ended self.now) }
         ensures free { TakesNoMemory result }

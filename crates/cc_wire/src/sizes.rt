@@ -1,7 +1,7 @@
 //! How long spellings are at most.
 
 ghost use Rattle.cc_wire.specs.Sizes.{TakesAtMost};
-ghost use Rattle.cc_wire.specs.Spelling.{value_spelling, IsValue, row_spelling, IsRow, view_spelling, IsView, IsNumberList};
+ghost use Rattle.cc_wire.specs.Spellings.{value_spelling, IsValue, row_spelling, IsRow, view_spelling, IsView, IsNumberList};
 ghost use Rattle.cc_wire.specs.Messages.{message_spelling, IsMessage};
 ghost use Rattle.cc_wire.specs.Commands.{command_spelling, IsCommand};
 ghost use Rattle.cc_wire.specs.Answers.{answer_spelling, IsAnswer};

@@ -2,7 +2,7 @@
 
 ghost use Rattle.std.specs.List.{AllByRecursion};
 ghost use Rattle.std.specs.Prelude.{◌<◌, ◌^◌};
-ghost use Rattle.cc_wire.specs.Spelling.{IsText, IsNumberSet, IsValue, IsRow, IsView, IsId, IsChanges};
+ghost use Rattle.cc_wire.specs.Spellings.{IsText, IsNumberSet, IsValue, IsRow, IsView, IsId, IsChanges};
 ghost use Rattle.cc_wire.specs.Messages.{IsMessage, IsCall};
 ghost use Rattle.cc_wire.specs.Commands.{IsCommand};
 ghost use Rattle.cc_wire.specs.Answers.{IsAnswer};

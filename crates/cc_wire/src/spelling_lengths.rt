@@ -3,7 +3,7 @@
 ghost use Rattle.std.specs.Prelude.{◌≡◌, ◌≤◌, ◌*◌, length};
 ghost use Rattle.std.specs.List.{flat_map};
 ghost use Rattle.cc_views.specs.Limits.{known_limit};
-ghost use Rattle.cc_wire.specs.Spelling.{text_spelling, value_spelling, row_spelling, view_spelling, listed_spelling, changes_spelling};
+ghost use Rattle.cc_wire.specs.Spellings.{text_spelling, value_spelling, row_spelling, view_spelling, listed_spelling, changes_spelling};
 ghost use Rattle.cc_wire.specs.Messages.{message_spelling};
 ghost use Rattle.cc_wire.specs.Commands.{command_spelling};
 ghost use Rattle.cc_wire.specs.Answers.{answer_spelling};

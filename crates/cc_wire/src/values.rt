@@ -1,13 +1,13 @@
 //! Values of four slots.
 
-ghost use Rattle.cc_wire.specs.Reading.{Gives, TakesNoMemory, text_at, number_set_at, value_at};
+ghost use Rattle.cc_wire.specs.Readers.{Gives, TakesNoMemory, text_at, number_set_at, value_at};
 
 use crate::fault::WireFault;
 use crate::reader::Reader;
 use cc_views::{NumberSet, Text, Value};
 
 impl<'a> Reader<'a> {
-    #[tactic(auto, unfolding(crate::specs::Reading::text_at))]
+    #[tactic(auto, unfolding(crate::specs::Readers::text_at))]
     pub(crate) fn text(&mut self) -> Result<Text, WireFault>
         ensures exact { Gives (λ x. (x, self.new)) result (text_at self.old) }
         ensures free { TakesNoMemory result }
@@ -20,7 +20,7 @@ impl<'a> Reader<'a> {
         Ok(Text::new(bytes).unwrap())
     }
 
-    #[tactic(auto, unfolding(crate::specs::Reading::number_set_at, crate::specs::Reading::listed_at))]
+    #[tactic(auto, unfolding(crate::specs::Readers::number_set_at, crate::specs::Readers::listed_at))]
     fn number_set(&mut self) -> Result<NumberSet, WireFault>
         ensures { Gives (λ x. (x, self.new)) result (number_set_at self.old) }
     {
@@ -35,7 +35,7 @@ impl<'a> Reader<'a> {
 
     /// A value: its text, maximum, flag and set. TooLarge for a text or a set above its limit, BadKind for a flag above
     /// 1, NotAscending for a set that doesn't rise.
-    #[tactic(auto, unfolding(crate::specs::Reading::value_at))]
+    #[tactic(auto, unfolding(crate::specs::Readers::value_at))]
     pub fn value(&mut self) -> Result<Value, WireFault>
         ensures { Gives (λ x. (x, self.new)) result (value_at self.old) }
     {

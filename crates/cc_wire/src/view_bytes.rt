@@ -5,8 +5,8 @@ ghost use Rattle.std.specs.Vec.{vec_capacity};
 ghost use Rattle.std.specs.FinMap as map;
 ghost use Rattle.cc_views.specs.Rows.{ViewMap, rows_of, entries_of};
 ghost use Rattle.cc_views.specs.Limits.{known_limit};
-ghost use Rattle.cc_wire.specs.Spelling.{SpellsView, view_spelling};
-ghost use Rattle.cc_wire.specs.Reading.{Gives, row_at, rows_at, view_at, whole};
+ghost use Rattle.cc_wire.specs.Spellings.{SpellsView, view_spelling};
+ghost use Rattle.cc_wire.specs.Readers.{Gives, row_at, rows_at, view_at, whole};
 
 use crate::fault::WireFault;
 use crate::reader::Reader;
@@ -15,7 +15,7 @@ use cc_views::{NoMemory, Row, View};
 use std::alloc::Global;
 
 impl<'a> Reader<'a> {
-    #[tactic(auto, unfolding(crate::specs::Reading::row_at))]
+    #[tactic(auto, unfolding(crate::specs::Readers::row_at))]
     fn row(&mut self, least: u64) -> Result<Row, WireFault>
         requires { 1 ≤ least }
         ensures exact { Gives (λ x. (x, self.new)) result (row_at least self.old) }
@@ -48,7 +48,7 @@ impl<'a> Reader<'a> {
 
     /// A view: a count, and so many rows. TooLarge above 256, NotAscending where the nodes don't rise, and the faults of a
     /// row's value.
-    #[tactic(auto, unfolding(crate::specs::Reading::view_at, crate::specs::Reading::row_list_at))]
+    #[tactic(auto, unfolding(crate::specs::Readers::view_at, crate::specs::Readers::row_list_at))]
     pub fn view(&mut self, alloc: Global) -> Result<View, WireFault>
         ensures { Gives (λ x. (x, self.new)) result (view_at self.old) }
     {
@@ -75,7 +75,7 @@ pub fn decode_view(alloc: Global, bytes: &[u8]) -> Result<View, WireFault>
     decode_all(alloc, bytes)
 }
 
-#[tactic(auto, unfolding(crate::specs::Reading::whole))]
+#[tactic(auto, unfolding(crate::specs::Readers::whole))]
 fn decode_all(alloc: Global, bytes: &[u8]) -> Result<View, WireFault>
     ensures { Gives (λ v. v) result (whole view_at bytes.now) }
 {

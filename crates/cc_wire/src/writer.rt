@@ -4,9 +4,9 @@ ghost use Rattle.std.specs.Prelude.{◌≡◌, ◌≤◌, ◌<◌, ◌+◌, ◌�
 ghost use Rattle.std.specs.Int.{w16, w32, w64, to_be_bytes};
 ghost use Rattle.std.specs.Vec.{vec_capacity};
 ghost use Rattle.std.specs.List.{flat_map, AllByRecursion};
-ghost use Rattle.cc_wire.specs.Writing.{Writes};
-ghost use Rattle.cc_wire.specs.Spelling.{text_spelling, IsText, flag_spelling, number_spelling, number_set_spelling, IsNumberSet, value_spelling};
-ghost use Rattle.cc_wire.specs.Spelling.{IsValue, row_spelling, IsRow, view_spelling, IsView};
+ghost use Rattle.cc_wire.specs.Writers.{Writes};
+ghost use Rattle.cc_wire.specs.Spellings.{text_spelling, IsText, flag_spelling, number_spelling, number_set_spelling, IsNumberSet, value_spelling};
+ghost use Rattle.cc_wire.specs.Spellings.{IsValue, row_spelling, IsRow, view_spelling, IsView};
 
 use byteorder::{BigEndian, ByteOrder};
 use cc_views::{NoMemory, NumberSet, Row, Text, Value, View};

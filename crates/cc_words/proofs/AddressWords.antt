@@ -25,14 +25,14 @@ use Rattle.std.proofs.lemmas.Fmt.{decimal_injective}
 use Rattle.std.proofs.lemmas.List.Elements.{All-append, All-cons, All-nil}
 use Rattle.std.proofs.lemmas.Str.Pattern.{IsSplitOnceResult, split_after, split_parts}
 use Rattle.cc_words.specs.Words.{NoNumber}
-use Rattle.cc_addresses.specs.Hosts.{IsHostName}
+use Rattle.cc_network.specs.Hosts.{IsHostName}
 use Rattle.cc_words.specs.Addresses.{SpellsBracketed, NoBracketed, SpellsHost, NoHost, SpellsAddress, NoAddress, NoId, SpellsPeer, NoPeer, ArePeers}
 use Rattle.cc_words.specs.Addresses.{NonePeers, SpellsPeers, NoPeers}
-use Rattle.cc_addresses.specs.declared.hosts.Host.TheVariants as host
-use Rattle.cc_addresses.specs.declared.peer.Address.{Address}
-use Rattle.cc_addresses.specs.declared.peer.Peer.{Peer}
+use Rattle.cc_network.specs.declared.hosts.Host.TheVariants as host
+use Rattle.cc_network.specs.declared.peer.Address.{Address}
+use Rattle.cc_network.specs.declared.peer.Peer.{Peer}
 use Rattle.cc_words.proofs.Digits.{fits}
-use Rattle.cc_addresses.proofs.LastParts.{Lacks, cut_later, last_split, IsCut, cut_parts}
+use Rattle.cc_network.proofs.LastParts.{Lacks, cut_later, last_split, IsCut, cut_parts}
 use Rattle.cc_words.proofs.Parts.{avoids}
 
 -- ---- characters

@@ -4,7 +4,7 @@ use Rattle.std.proofs.Common.{◌≡◌, ℕ, List, [], ◌∷◌, true, false, 
 use Rattle.std.specs.List.{list_all}
 use Rattle.std.proofs.lemmas.Bool.{and_parts, ne_eqb}
 use Rattle.std.proofs.lemmas.List.Elements.{All-cons, All-nil}
-use Rattle.cc_addresses.specs.Hosts.{is_name_byte}
+use Rattle.cc_network.specs.Hosts.{is_name_byte}
 use Rattle.cc_words.proofs.AddressWords.{Avoids}
 
 pub name_avoids : (k : ℕ) → is_name_byte k ≡ false → (name : List ℕ) → list_all is_name_byte name ≡ true → Avoids k name

@@ -16,10 +16,10 @@ use Rattle.std.specs.List.{list_all}
 use Rattle.std.proofs.lemmas.Bool.{eqb-false, or_parts, and_parts}
 use Rattle.std.proofs.lemmas.Fmt.{decimal_injective}
 use Rattle.std.proofs.lemmas.Str.Pattern.{IsSplitOnceResult, split_after, split_parts}
-use Rattle.cc_addresses.specs.declared.clusters.NameFault.{NameFault}
-use Rattle.cc_addresses.specs.Hosts.{is_name_byte}
-use Rattle.cc_addresses.specs.Clusters.{name_in}
-use Rattle.cc_addresses.proofs.ClusterNames.{ok_named, named_ok}
+use Rattle.cc_network.specs.declared.clusters.NameFault.{NameFault}
+use Rattle.cc_network.specs.Hosts.{is_name_byte}
+use Rattle.cc_network.specs.Clusters.{name_in}
+use Rattle.cc_network.proofs.ClusterNames.{ok_named, named_ok}
 use Rattle.cc_words.specs.declared.identities.Identity.{Identity}
 use Rattle.cc_words.specs.declared.identities.IdentityFault.{IdentityFault}
 use Rattle.cc_words.specs.declared.identities.IdentityFault.TheVariants.{NoCluster, NoBirth, More}

@@ -17,10 +17,10 @@ use Rattle.std.proofs.Math.Dec.{eqb}
 use Rattle.std.proofs.lemmas.List.{get_or-map, length-map}
 use Rattle.std.proofs.lemmas.List.Elements.{All-cons}
 use Rattle.std.proofs.lemmas.List.Splits.{slice_split_at, slice_split_none}
-use Rattle.cc_addresses.specs.declared.hosts.Host.{Host}
-use Rattle.cc_addresses.specs.declared.hosts.Host.TheVariants as host
-use Rattle.cc_addresses.specs.declared.peer.Address.{Address}
-use Rattle.cc_addresses.specs.declared.peer.Peer.{Peer}
+use Rattle.cc_network.specs.declared.hosts.Host.{Host}
+use Rattle.cc_network.specs.declared.hosts.Host.TheVariants as host
+use Rattle.cc_network.specs.declared.peer.Address.{Address}
+use Rattle.cc_network.specs.declared.peer.Peer.{Peer}
 use Rattle.cc_words.specs.Addresses.{SpellsHost, SpellsAddress, SpellsPeer, ArePeers, SpellsPeers}
 use Rattle.cc_words.specs.PeerLines.{said_in, said_on, lines_of, said_lines, list_of_lines, IsNoPeerLine, IsFaultAt, IsFirstFault, HaveNoComma}
 use Rattle.cc_words.specs.declared.peer_lines.LineFault.{LineFault}

@@ -12,11 +12,11 @@ use Rattle.std.specs.List.{AllZip, slice_split}
 use Rattle.std.specs.Net.Grammar.{IsIpv4Text, IsIpv6Text}
 use Rattle.std.specs.declared.net.ip_addr.IpAddr.TheVariants as ip
 use Rattle.std.specs.declared.net.ipv6_addr.Ipv6Addr.{Ipv6Addr}
-use Rattle.cc_addresses.specs.Hosts.{IsHostName, host_name}
-use Rattle.cc_addresses.specs.declared.hosts.Host.{Host}
-use Rattle.cc_addresses.specs.declared.hosts.Host.TheVariants as host
-use Rattle.cc_addresses.specs.declared.peer.Address.{Address}
-use Rattle.cc_addresses.specs.declared.peer.Peer.{Peer}
+use Rattle.cc_network.specs.Hosts.{IsHostName, host_name}
+use Rattle.cc_network.specs.declared.hosts.Host.{Host}
+use Rattle.cc_network.specs.declared.hosts.Host.TheVariants as host
+use Rattle.cc_network.specs.declared.peer.Address.{Address}
+use Rattle.cc_network.specs.declared.peer.Peer.{Peer}
 
 pub record SpellsBracketed (word : List ℕ) (a : Ipv6Addr) : Type 0 where
   pub inside : List ℕ

@@ -8,7 +8,7 @@
 use Rattle.std.specs.Prelude.{◌≡◌, ◌≢◌, ◌≤◌, ◌<◌, ◌^◌, ◌==◌, ℕ, Bool, List, [], ◌∷◌, ◌++◌, length, slice_index, codes}
 use Rattle.std.specs.Fmt.{decimal}
 use Rattle.std.specs.List.{list_any}
-use Rattle.cc_addresses.specs.Clusters.{IsClusterName}
+use Rattle.cc_network.specs.Clusters.{IsClusterName}
 use Rattle.cc_words.specs.declared.identities.Identity.{Identity}
 use Rattle.cc_words.specs.declared.identities.IdentityFault.{IdentityFault}
 use Rattle.cc_words.specs.declared.identities.IdentityFault.TheVariants as fault

@@ -8,7 +8,7 @@
 use Rattle.std.specs.Prelude.{◌≡◌, ◌<◌, ◌+◌, ◌==◌, ⊤, ℕ, List, [], ◌∷◌, Option, Some, None, false, length, take, if◌then◌else◌}
 use Rattle.std.specs.List.{All, filter_map, join_with_byte, slice_index_or, slice_split}
 use Rattle.std.specs.Str.{trim}
-use Rattle.cc_addresses.specs.declared.peer.Peer.{Peer}
+use Rattle.cc_network.specs.declared.peer.Peer.{Peer}
 use Rattle.cc_words.specs.Addresses.{ArePeers, NoPeer}
 use Rattle.cc_words.specs.declared.peer_lines.LineFault.{LineFault}
 use Rattle.cc_words.specs.declared.peer_lines.LineFault.TheVariants as fault

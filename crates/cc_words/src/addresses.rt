@@ -6,7 +6,7 @@ ghost use Rattle.cc_words.specs.Addresses.{SpellsAddress, NoAddress, SpellsHost,
 ghost use Rattle.cc_words.specs.Addresses.{NonePeers, SpellsPeers, NoPeers};
 
 use crate::numbers::{port_number, small_number};
-use cc_addresses::{Address, Host, HostName, Peer};
+use cc_network::{Address, Host, HostName, Peer};
 use cc_views::NodeId;
 use std::alloc::{AllocError, Global};
 use std::net::{IpAddr, Ipv6Addr};

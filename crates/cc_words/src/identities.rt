@@ -7,7 +7,7 @@ ghost use Rattle.cc_words.specs.declared.identities.Identity.{Identity as Identi
 ghost use Rattle.cc_words.specs.declared.identities.IdentityFault.{IdentityFault as Fault};
 
 use crate::numbers::number;
-use cc_addresses::ClusterName;
+use cc_network::ClusterName;
 use cc_views::NoMemory;
 use itoa::Buffer;
 use std::alloc::{AllocError, Global};

@@ -6,10 +6,10 @@ ghost use Rattle.std.specs.Option.{option_map};
 ghost use Rattle.cc_words.specs.Addresses.{ArePeers, SpellsPeers};
 ghost use Rattle.cc_words.specs.PeerLines.{said_in, said_on, lines_of, said_lines, list_of_lines, IsFaultAt, IsFirstFault, HaveNoComma};
 ghost use Rattle.cc_words.specs.declared.peer_lines.LineFault.TheVariants as faults;
-ghost use Rattle.cc_addresses.specs.declared.peer.Peer.{Peer as PeerValue};
+ghost use Rattle.cc_network.specs.declared.peer.Peer.{Peer as PeerValue};
 
 use crate::addresses::peer_in;
-use cc_addresses::Peer;
+use cc_network::Peer;
 use std::alloc::{AllocError, AllocFailed, Global};
 
 /// Why no peers stand on the lines of a text.

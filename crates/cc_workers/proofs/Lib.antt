@@ -1,1 +1,1 @@
-mod ServingLaws
+mod WorkerStepLaws

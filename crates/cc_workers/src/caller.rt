@@ -2,21 +2,24 @@
 
 ghost use Rattle.std.specs.Prelude.{◌≡◌, ◌+◌, List, None, IfSome, IfOk, MatchResult};
 ghost use Rattle.cc_intake.specs.Talks.{Answer, IsAnswer, places_of, PlacesRise};
-ghost use Rattle.cc_workers.specs.Serving.{brings_again, greeting_in, wants_silence, Takes, Guards, Stops, Brings};
+ghost use Rattle.cc_workers.specs.WorkerSteps.{brings_again, greeting_in, wants_silence, Takes, Guards, Stops, Brings};
 
 use crate::context::Context;
 use crate::duties::duty_of;
 use crate::replies::Replies;
-use cc_channels::{Admission, Admitting, Flushed, NotAdmitted, Verdict, bytes_of};
-use cc_frames::{Frame, Hello};
-use cc_intake::{Accepted, Hooks, Lane, Life, Refused, Share, Source};
-use cc_life::OfLife;
+use cc_channels::{
+    Admission, Admit, HeardNodes, Instruction, NotAdmitted, Notice, Shared, Verdict, bytes_of,
+    give_notice,
+};
+use cc_intake::{Accepted, Hooks, Lane, Life, OfLife, Refused, Share, Source};
 use cc_messages::{Event, Refusal};
+use cc_network::{Frame, Hello};
 use cc_ops::Asked;
 use cc_protocol::{
-    Duty, Ending, Incoming, Input, Objection, event_of, objection_frame, objection_to, speaker_of,
+    Duty, Ending, Input, Objection, ReceivedFrames, event_of, objection_frame, objection_to,
+    speaker_of,
 };
-use cc_shared::{Instruction, Meeting, Notice, Shared, give_notice};
+use cc_site::Flushed;
 use cc_views::NodeId;
 use log::{Log, debug};
 use std::alloc::Global;
@@ -40,7 +43,7 @@ pub enum Done {
 
 /// The events of one connection, and where their answers go.
 #[derive(Drop)]
-pub struct Caller<'a, R: Wait, I: Input, S: Admitting, D: Replies, F: Flushed> {
+pub struct Caller<'a, R: Wait, I: Input, S: Admit, D: Replies, F: Flushed> {
     rt: &'a R,
     alloc: Global,
     shared: &'a Shared,
@@ -51,7 +54,7 @@ pub struct Caller<'a, R: Wait, I: Input, S: Admitting, D: Replies, F: Flushed> {
     admitting: &'a S,
     connection: &'a D,
     ticket: u64,
-    frames: Incoming<I>,
+    frames: ReceivedFrames<I>,
     // The event that comes next is a retirement of a node that has to be silent.
     is_guarded: bool,
     // The place of the route of the event that was given last, if that is an ask that has one.
@@ -62,7 +65,7 @@ pub struct Caller<'a, R: Wait, I: Input, S: Admitting, D: Replies, F: Flushed> {
     done: Done,
 }
 
-impl<R: Wait + Log, I: Input, S: Admitting, D: Replies, F: Flushed> Caller<'_, R, I, S, D, F> {
+impl<R: Wait + Log, I: Input, S: Admit, D: Replies, F: Flushed> Caller<'_, R, I, S, D, F> {
     // The event that comes next, or why none does.
     fn event(&mut self) -> Result<Event, Done>
         ensures comes { MatchResult result
@@ -215,8 +218,8 @@ impl<R: Wait + Log, I: Input, S: Admitting, D: Replies, F: Flushed> Caller<'_, R
     }
 
     // What notes whom the connection brings news of.
-    fn meeting(&self) -> Meeting<'_> {
-        Meeting {
+    fn meeting(&self) -> HeardNodes<'_> {
+        HeardNodes {
             me: self.me,
             channels: &self.shared.channels,
             known: &self.shared.known,
@@ -259,9 +262,9 @@ impl<R: Wait + Log, I: Input, S: Admitting, D: Replies, F: Flushed> Caller<'_, R
     }
 }
 
-impl<R: Wait + Log, I: Input, S: Admitting, D: Replies, F: Flushed> Source
+impl<R: Wait + Log, I: Input, S: Admit, D: Replies, F: Flushed> Source
     for Caller<'_, R, I, S, D, F> {
-    ghost use Rattle.cc_workers.specs.Serving.{Gives, Hears};
+    ghost use Rattle.cc_workers.specs.WorkerSteps.{Gives, Hears};
 
     ghost gives = { λ s e t. Gives I.may_fail S.may_turn_away
         (record { due = s.due; ahead = s.frames; done = s.done }) e
@@ -350,7 +353,7 @@ fn verdict_of(why: Refusal) -> Verdict {
 /// each answer is the intake's to that very event, and the share counts those that were accepted. It tells why it ended: that
 /// a read failed only where one can, and that an event was turned away only where one can be. What came behind the last frame is
 /// dropped.
-pub fn serve<R: Wait + Log, H: Hooks, L: Life, Q: Lane, I: Input + Drop, S: Admitting, D: Replies>(
+pub fn serve<R: Wait + Log, H: Hooks, L: Life, Q: Lane, I: Input + Drop, S: Admit, D: Replies>(
     context: &Context<'_, R, H, L, Q>,
     admitting: &S,
     connection: &D,
@@ -363,7 +366,7 @@ pub fn serve<R: Wait + Log, H: Hooks, L: Life, Q: Lane, I: Input + Drop, S: Admi
         × IfSome (I.remaining reader) (λ bytes. Brings I.may_fail S.may_turn_away (IsAnswer L.opening L.accepted L.taken) result None bytes answers) }
 {
     let alloc = context.alloc;
-    let Ok(frames) = Incoming::new(alloc, reader) else {
+    let Ok(frames) = ReceivedFrames::new(alloc, reader) else {
         return Done::NoMemory;
     };
     let mut caller = Caller {

@@ -1,7 +1,7 @@
 //! What the intake's answer to an event asks of the worker that brought it.
 
 ghost use Rattle.std.specs.Prelude.{◌≡◌};
-ghost use Rattle.cc_workers.specs.Serving.{duty_of};
+ghost use Rattle.cc_workers.specs.WorkerSteps.{duty_of};
 
 use cc_intake::{Accepted, Refused};
 use cc_messages::Event;

@@ -1,15 +1,15 @@
 //! The workers of a node: one for each connection, and one for what the node sends to itself.
 #![tactic(auto)]
 
-mod attending;
 mod caller;
+mod connection;
 mod context;
 mod duties;
 mod own;
 mod replies;
 
-pub use attending::attend;
 pub use caller::{Done, serve};
+pub use connection::attend;
 pub use context::Context;
 pub use duties::duty_of;
 pub use own::serve_own;

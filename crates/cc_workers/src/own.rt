@@ -1,15 +1,15 @@
 //! The worker of what a node sends to itself.
 
 ghost use Rattle.std.specs.Prelude.{◌≡◌, Some, IfSome};
-ghost use Rattle.cc_workers.specs.Serving.{brings_again};
+ghost use Rattle.cc_workers.specs.WorkerSteps.{brings_again};
 
 use crate::context::Context;
 use crate::duties::duty_of;
-use cc_channels::{Admission, Flushed};
+use cc_channels::{Admission, Shared};
 use cc_intake::{Accepted, Hooks, Lane, Life, Refused, Source};
 use cc_messages::Event;
 use cc_protocol::Duty;
-use cc_shared::Shared;
+use cc_site::Flushed;
 use crossbeam_channel::Receiver;
 use std::sync::Wait;
 
@@ -62,7 +62,7 @@ impl<R: Wait, F: Flushed> Own<'_, R, F> {
 }
 
 impl<R: Wait, F: Flushed> Source for Own<'_, R, F> {
-    ghost use Rattle.cc_workers.specs.Serving.{due_after};
+    ghost use Rattle.cc_workers.specs.WorkerSteps.{due_after};
 
     ghost gives = { λ s e t. IfSome s.due (λ due. IfSome e (λ given. given ≡ due)) };
 

@@ -2,8 +2,9 @@
 
 ghost use Rattle.std.specs.Prelude.{◌≤◌};
 
-use cc_channels::{Connection, Durable, Flushed};
+use cc_channels::{Connection, Durable};
 use cc_intake::Refused;
+use cc_site::Flushed;
 use std::sync::Wait;
 
 /// A connection, as its worker tells refusals over it.

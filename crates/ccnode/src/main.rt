@@ -2,15 +2,14 @@
 //! a node, runs it over TCP, asks one that runs, measures how quickly nodes answer, and tells what stands in a folder.
 #![tactic(auto)]
 
-mod running;
+mod run;
 
-use cc_arguments::{Order, parse};
-use cc_orders::{LogLevel, RunWords};
-use cc_terminal::{
+use cc_commands::{
     BAD_COMMAND_LINE, Lines, NotingRuntime, StandIns, ask, dump, format, leave, load, play_input,
     retire, share, status,
 };
-use running::run;
+use cc_words::{LogLevel, Order, RunWords, parse};
+use run::run;
 use std::process::ExitCode;
 
 fn main(rt: HostRuntime) -> anyhow::Result<ExitCode> {

@@ -1,7 +1,7 @@
 //! A first life over a site in memory: an entrant is formatted, opened, and handed its Enter.
 
 ghost use Rattle.std.specs.Prelude.{◌≤◌, length};
-ghost use Rattle.cc_node.specs.Opening.{told, fresh};
+ghost use Rattle.cc_node.specs.Openings.{told, fresh};
 ghost use Rattle.cc_journal.specs.Batches.{AreLawful};
 
 use crate::parts::entry_of;

@@ -1,9 +1,8 @@
 //! What a call leaves that is refused memory, and what a fault says. `make refused-growths` counts what is told here.
 
 use cc_checkpoint::OpenFault;
-use cc_files::SiteFault;
 use cc_flush::{CheckpointFault, Failed, FormatFault};
-use cc_site::{Call, DeviceFault, Side};
+use cc_site::{Call, DeviceFault, Side, SiteFault};
 use cc_states::StateFault;
 use cc_wire::WireFault;
 use std::fmt::{Debug, Display};

@@ -1,6 +1,6 @@
 //! Lines that a script prints among others.
 
-use crate::comparing::rows_in;
+use crate::comparison::rows_in;
 use cc_words::number;
 
 /// The first of these lines, counted from 1, that isn't printed. A line in brackets says something else of what is printed.

@@ -4,16 +4,16 @@
 
 mod among;
 mod cases;
-mod comparing;
+mod chapter_lines;
+mod comparison;
+mod crashes;
 mod folders;
-mod moving;
-mod playing;
-mod spelling;
+mod player;
 
 use cases::Case;
-use comparing::{Wrong, two_values};
+use comparison::{Wrong, two_values};
 use folders::print_folders;
-use playing::check;
+use player::check;
 use std::fs;
 use std::process::ExitCode;
 

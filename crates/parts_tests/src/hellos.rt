@@ -3,9 +3,8 @@
 use crate::formats::check_bytes;
 use crate::frames::frame_bytes;
 use crate::sets::id;
-use cc_addresses::{ClusterName, NameFault};
 use cc_changes::Fraction;
-use cc_frames::{Frame, Hello, Quorum, Reason, decode_frame};
+use cc_network::{ClusterName, Frame, Hello, NameFault, Quorum, Reason, decode_frame};
 use cc_wire::WireFault;
 use std::process::Abort;
 

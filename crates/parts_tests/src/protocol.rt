@@ -2,16 +2,16 @@
 
 mod access;
 mod admission;
-mod calling;
 mod clients;
-mod connecting;
+mod connection;
 mod frames;
-mod greeting;
+mod greetings;
 mod identities;
-mod incoming;
 mod last_asks;
-mod objecting;
+mod received_frames;
+mod retirement_check;
 mod routes;
+mod snapshot_timer;
 mod speakers;
 mod standings;
 mod withheld;

@@ -1,10 +1,9 @@
 //! Two of three members go on without the third, which is started late or never.
 
-use crate::asking::{DONE, check_asked, is_asked, is_retired, order, retirement};
+use crate::ask::{DONE, check_asked, is_asked, is_retired, order, retirement};
 use crate::nodes::{Place, format, free_place, peer, run, while_one_runs, while_two_run};
-use cc_addresses::Address;
-use cc_flags::Stop;
 use cc_intake::NoHooks;
+use cc_network::{Address, Stop};
 use std::alloc::Global;
 use std::net::{Net, TcpListener, TcpStream};
 use std::process::Abort;

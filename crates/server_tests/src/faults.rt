@@ -1,13 +1,12 @@
 //! Why a node doesn't run: each fault, and its text.
 
 use crate::nodes::{Setting, config_of, format, free_place, peer};
-use cc_addresses::Address;
+use cc_channels::ReadText;
 use cc_checkpoint::OpenFault;
-use cc_flags::Stop;
 use cc_flush::Failed;
 use cc_intake::NoHooks;
+use cc_network::{Address, Stop};
 use cc_server::{RunFault, run_node};
-use cc_shared::ReadText;
 use cc_site::{Call, DeviceFault, Side};
 use log::Log;
 use std::fs;

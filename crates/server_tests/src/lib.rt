@@ -4,29 +4,29 @@
 #[cfg(test)]
 mod absent;
 #[cfg(test)]
-mod asking;
+mod ask;
 #[cfg(test)]
 mod clients;
 #[cfg(test)]
 mod faults;
 #[cfg(test)]
-mod following;
-#[cfg(test)]
 mod greetings;
 #[cfg(test)]
-mod holding;
+mod held_sync;
 #[cfg(test)]
 mod hostile;
 #[cfg(test)]
-mod loading;
+mod load;
 #[cfg(test)]
 mod nodes;
 #[cfg(test)]
 mod pages;
 #[cfg(test)]
-mod routing;
+mod peers_file;
 #[cfg(test)]
-mod skipping;
+mod routes;
+#[cfg(test)]
+mod skips;
 #[cfg(test)]
 mod slow_peer;
 #[cfg(test)]

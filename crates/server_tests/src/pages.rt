@@ -1,14 +1,13 @@
 //! A node by itself: those who look at it over HTTP, a port for clients alone, and asks over one connection that begin
 //! together. It hears the operator on its own machine alone.
 
-use crate::asking::check_asked;
+use crate::ask::check_asked;
 use crate::clients::{
     FIRST_ASK, FIRST_REPLY, OTHER_ASK, OTHER_REPLY, check_closed, ends, exchange, reads, sent,
 };
 use crate::nodes::{Place, Setting, format, free_address, free_place, run_with, while_one_runs};
-use cc_addresses::Address;
-use cc_flags::Stop;
 use cc_intake::NoHooks;
+use cc_network::{Address, Stop};
 use serde_json::Value;
 use std::io::{Read, Write};
 use std::net::{Net, Shutdown, SocketAddr, TcpStream};

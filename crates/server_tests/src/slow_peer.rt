@@ -2,10 +2,8 @@
 //! its writer.
 
 use crate::nodes::{Place, free_place};
-use cc_addresses::{Address, Peer};
-use cc_channels::{Dialling, FarEnd, PeerChannels, Waker, channels_to};
-use cc_dialling::{Dialler, dial_peer};
-use cc_flags::Flag;
+use cc_channels::{Dialler, FarEnd, HelloExchange, PeerChannels, Waker, channels_to, dial_peer};
+use cc_network::{Address, Flag, Peer};
 use cc_protocol::Parcel;
 use cc_views::NodeId;
 use crossbeam_utils::sync::Parker;
@@ -96,7 +94,7 @@ fn dial<R: Wait + Clock + Log + Net<Stream = TcpStream>>(
     rt: &R,
     alloc: Global,
     me: NodeId,
-    dialling: &Dialling,
+    dialling: &HelloExchange,
     waker: &Waker,
     over: &Flag,
     end: FarEnd,
@@ -125,7 +123,7 @@ fn a_peer_that_reads_late_gets_all_in_order(rt: HostRuntime) {
     let parker = Parker::new(alloc).expect(&rt, "room");
     let waker = Waker::new(parker.unparker().clone().expect(&rt, "room"));
     let over = Flag::new();
-    let dialling = Dialling::new();
+    let dialling = HelloExchange::new();
     let me = node(&rt, 1);
     thread::join(
         &rt,

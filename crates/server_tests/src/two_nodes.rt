@@ -1,17 +1,16 @@
 //! Two nodes that know each other by names: what clients and the operator are told, whatever others send.
 
-use crate::asking::{ask_all, check_asked, operate};
+use crate::ask::{ask_all, check_asked, operate};
 use crate::clients::{
     FIRST_ASK, FIRST_REPLY, OTHER_ASK, OTHER_REPLY, THIRD_ASK, THIRD_REFUSED, connected, ends,
     exchange, reads, sent,
 };
-use crate::holding::Hold;
+use crate::held_sync::Hold;
 use crate::hostile::attack;
-use crate::loading::check_load;
+use crate::load::check_load;
 use crate::nodes::{Place, format, free_place, peer, run, while_two_run};
-use cc_addresses::{Address, Host, HostName};
-use cc_flags::Stop;
 use cc_intake::NoHooks;
+use cc_network::{Address, Host, HostName, Stop};
 use std::io::Write;
 use std::net::{Net, Shutdown, SocketAddr, TcpListener, TcpStream};
 use std::process::Abort;

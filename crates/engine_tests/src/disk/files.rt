@@ -2,9 +2,10 @@
 
 ghost use Rattle.std.specs.Prelude.{◌≤◌, IfOk};
 
-use cc_files::{FileSite, NoOutlet, Outlet, SiteFault, read_whole, write_whole};
 use cc_messages::{Answer, Message};
-use cc_site::{Call, DeviceFault, Side, Site};
+use cc_site::{
+    Call, DeviceFault, FileSite, NoOutlet, Outlet, Side, Site, SiteFault, read_whole, write_whole,
+};
 use cc_views::NodeId;
 use std::cell::Cell;
 use std::fs::{File, Files};

@@ -3,10 +3,9 @@
 use crate::disk::files::{made, remove, site};
 use crate::disk::records::{comes_to, takes};
 use crate::sites::{ENTRANT, node_of};
-use cc_files::{FileSite, NoOutlet};
 use cc_journal::Journal;
 use cc_messages::Event;
-use cc_site::{Side, Site};
+use cc_site::{FileSite, NoOutlet, Side, Site};
 use std::process::Abort;
 
 // Takes an Enter and a Leave behind a closed gate. The first record makes the file longer, and the second is written over its

@@ -2,10 +2,10 @@
 
 ghost use Rattle.std.specs.Prelude.{◌≡◌, ℕ, List, None, false};
 ghost use Rattle.cc_journal.specs.declared.entry.Entry.{Entry as EntryValue};
-ghost use Rattle.cc_intake.specs.Accepting.{share_limit};
+ghost use Rattle.cc_intake.specs.Intakes.{share_limit};
 
 use crate::sites::{MEMBER, begun};
-use crate::threads::holding::{Hold, Holding};
+use crate::threads::held_sync::{Hold, Holding};
 use crate::threads::turns::fill;
 use crate::threads::workers::{Brings, labour_whole};
 use cc_flush::{Back, Flusher};

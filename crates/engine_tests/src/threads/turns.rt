@@ -1,7 +1,7 @@
 //! Whole turns, and a queue that is full.
 
 use crate::parts::id;
-use crate::threads::holding::{Hold, Holding};
+use crate::threads::held_sync::{Hold, Holding};
 use crate::threads::lives::{Disk, Story, live};
 use cc_intake::{Intake, Lane, Life, Queue, Share, Turned, Turner};
 use cc_messages::{Event, Message, Refusal};

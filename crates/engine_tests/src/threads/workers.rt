@@ -3,7 +3,7 @@
 use crate::parts::{Part, id};
 use crate::puts::{Put, put_of};
 use crate::steps::{Step, carry_out, engine};
-use crate::threads::holding::{Hold, Holding, TURNS};
+use crate::threads::held_sync::{Hold, Holding, TURNS};
 use crate::threads::lives::{Disk, Story, live};
 use cc_intake::{Accepted, Intake, Lane, Life, Queue, Refused, Share, Source, Turner, work};
 use cc_messages::{Command, Event, Message, Output, Refusal};

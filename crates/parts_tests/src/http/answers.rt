@@ -1,6 +1,6 @@
 //! The bytes of answers and events.
 
-use cc_http::{HEARTBEAT, Outcome, Page, Wrong, answer_page, answer_wrong, home, put_event};
+use cc_status::{HEARTBEAT, Outcome, Page, Wrong, answer_page, answer_wrong, home, put_event};
 
 const CHANGES: &[u8] = b"HTTP/1.1 200 OK\r
 Content-Type: text/event-stream\r

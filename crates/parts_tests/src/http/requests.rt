@@ -1,6 +1,6 @@
 //! What requests ask for, as they come in.
 
-use cc_http::{Asked, MOST_FIELDS, MOST_HEAD, Page, Wrong, read_request};
+use cc_status::{Asked, MOST_FIELDS, MOST_HEAD, Page, Wrong, read_request};
 use std::process::Abort;
 
 // Requests for pages.

@@ -1,6 +1,6 @@
 //! What the disks of a cluster hold.
 
-use cc_play::{Cluster, Played, parse};
+use cc_commands::{Cluster, Played, parse};
 use cc_site::{Choice, Side, Site};
 use std::process::Abort;
 

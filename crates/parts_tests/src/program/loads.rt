@@ -1,8 +1,8 @@
 //! Loads: their words, and what is printed of what they measure.
 
-use cc_load::{Report, Tally};
+use cc_client::{Report, Tally};
 use cc_messages::Refusal;
-use cc_orders::{AnswerForm, LoadOrder, LoadWords, WordFault};
+use cc_words::{AnswerForm, LoadOrder, LoadWords, WordFault};
 use std::process::Abort;
 
 // Words are made by a call: a constant of them costs more to prove wherever it is named.

@@ -2,8 +2,8 @@
 
 use cc_commands::{DumpScope, FormatOrder, dump_site, format_site};
 use cc_flush::{Back, Flusher, format};
-use cc_orders::FormatWords;
 use cc_site::{Choice, Failing, MemorySite, Side, write_durably};
+use cc_words::FormatWords;
 use std::process::Abort;
 
 // Two empty sides.

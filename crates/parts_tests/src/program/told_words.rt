@@ -3,7 +3,7 @@
 use crate::program::words::{format_of, with};
 use cc_commands::{BadOpening, FormatOrder, Warning};
 use cc_node::OpeningRule;
-use cc_orders::{AnswerForm, AskOrder, AskWords, CommandFault, FormatWords, WordFault};
+use cc_words::{AnswerForm, AskOrder, AskWords, CommandFault, FormatWords, WordFault};
 use std::process::Abort;
 
 // A command with that value and that text is none, and just this is told of it.

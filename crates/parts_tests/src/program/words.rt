@@ -1,15 +1,14 @@
 //! The words of the command line.
 
-use cc_addresses::{Address, Host};
 use cc_changes::Fraction;
 use cc_commands::FormatOrder;
 use cc_messages::Command;
-use cc_orders::{
-    AnswerForm, AskOrder, AskWords, FormatWords, LeaveOrder, LogLevel, RetireOrder, RetireWords,
-    RunOrder, RunWords, ShareOrder, StatusOrder, WordFault,
-};
+use cc_network::{Address, Host};
 use cc_views::NodeId;
-use cc_words::Speech;
+use cc_words::{
+    AnswerForm, AskOrder, AskWords, FormatWords, LeaveOrder, LogLevel, RetireOrder, RetireWords,
+    RunOrder, RunWords, ShareOrder, Speech, StatusOrder, WordFault,
+};
 use std::net::{IpAddr, Ipv4Addr};
 use std::process::Abort;
 

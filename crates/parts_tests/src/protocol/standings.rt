@@ -1,14 +1,14 @@
 //! How peers stand, second by second.
 
-use cc_protocol::Standing;
+use cc_protocol::PeerHealth;
 
 // What a live peer has acknowledged of what was sent to it by the end of a second, and how it stands then.
-const SILENT: [(u64, u64, Standing); 5] = [
-    (4, 4, Standing::Current),
-    (4, 9, Standing::Owing { due: 9, seconds: 0 }),
-    (8, 12, Standing::Owing { due: 9, seconds: 1 }),
-    (8, 12, Standing::Absent),
-    (12, 12, Standing::Absent),
+const SILENT: [(u64, u64, PeerHealth); 5] = [
+    (4, 4, PeerHealth::Current),
+    (4, 9, PeerHealth::Owing { due: 9, seconds: 0 }),
+    (8, 12, PeerHealth::Owing { due: 9, seconds: 1 }),
+    (8, 12, PeerHealth::Absent),
+    (12, 12, PeerHealth::Absent),
 ];
 
 // The same of one that acknowledges what was sent a second or two before: what it owes then, and for how many seconds.
@@ -21,16 +21,16 @@ const BUSY: [(u64, u64, u64, u64); 4] = [
 
 #[test]
 fn two_seconds_make_a_silent_peer_absent(rt: HostRuntime) {
-    let mut silent = Standing::Current;
+    let mut silent = PeerHealth::Current;
     for &(acked, sent, wanted) in &SILENT {
         silent = silent.after_second(acked, sent, true);
         assert!(rt; silent == wanted, "with {acked} of {sent}");
     }
-    let mut busy = Standing::Current;
+    let mut busy = PeerHealth::Current;
     for &(acked, sent, due, seconds) in &BUSY {
         busy = busy.after_second(acked, sent, true);
         assert!(rt;
-            busy == Standing::Owing { due, seconds },
+            busy == PeerHealth::Owing { due, seconds },
             "with {acked} of {sent}"
         );
     }
@@ -49,10 +49,10 @@ const LAPSES: [(u64, u64, bool, bool); 4] = [
 fn more_than_64_posts_of_an_absent_peer_lapse_once_a_second(rt: HostRuntime) {
     for &(posts, asked_at, is_tick, may) in &LAPSES {
         assert!(rt;
-            Standing::Absent.may_lapse(0, posts, asked_at, is_tick) == may,
+            PeerHealth::Absent.may_lapse(0, posts, asked_at, is_tick) == may,
             "{posts}"
         );
     }
-    let late = Standing::Owing { due: 9, seconds: 1 };
+    let late = PeerHealth::Owing { due: 9, seconds: 1 };
     assert!(rt; !late.may_lapse(0, 500, 0, true) && late.is_late());
 }

@@ -1,9 +1,7 @@
 //! The listener for clients that speak HTTP, before a node that the test plays.
 
-use cc_addresses::Address;
-use cc_flags::Flag;
-use cc_gateway::{Gateway, end_web, serve_web};
-use cc_web::WebSettings;
+use cc_network::{Address, Flag};
+use cc_web::{Gateway, WebSettings, end_web, serve_web};
 use std::hash::RandomState;
 use std::io::{Read, Write};
 use std::net::{Net, SocketAddr, TcpListener, TcpStream};

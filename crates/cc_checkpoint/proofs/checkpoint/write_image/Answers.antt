@@ -1,5 +1,5 @@
 use Rattle.std.proofs.Common.{◌∙◌, arith}
-use Rattle.cc_sides.specs.States.{node_spelling}
+use Rattle.cc_states.specs.States.{node_spelling}
 use Rattle.cc_states.proofs.TableWrites.{on_ok}
 use Rattle.cc_checkpoint.proofs.BehindRuns.{then_behind, image_behind}
 use Rattle.cc_checkpoint.proofs.Imaged.{image_laid}

@@ -1,8 +1,8 @@
 use Rattle.std.proofs.Common.{◌≡◌, ℕ, List, take, drop, Ok, subst, sym, arith}
 use Rattle.std.proofs.lemmas.Result.{err_from_is_err_and}
-use Rattle.cc_wire.specs.Reading.{whole}
+use Rattle.cc_wire.specs.Readers.{whole}
 use Rattle.cc_wire.proofs.Spelled.{IsBytes-take, IsBytes-drop}
-use Rattle.cc_sides.specs.States.{state_at}
+use Rattle.cc_states.specs.States.{state_at}
 use Rattle.cc_states.specs.Fields.{state_in}
 use Rattle.cc_checkpoint.specs.Heads.{NodeFound}
 use Rattle.cc_checkpoint.specs.Windows.{Misses, CountsRead}

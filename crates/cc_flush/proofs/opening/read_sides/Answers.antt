@@ -2,8 +2,8 @@ use Rattle.std.proofs.Common.{◌∙◌, inr, length, ap, subst, ℕ, ◌+◌, �
 use Rattle.std.proofs.lemmas.Result.{err_from_is_err_and}
 use Rattle.cc_site.specs.Reads.{bytes_of, reads_then}
 use Rattle.cc_checkpoint.specs.Heads.{HeadAt}
-use Rattle.cc_journal.specs.Reading.{IsScanned}
-use Rattle.cc_flush.specs.Opening.{RecordsFail}
+use Rattle.cc_journal.specs.EventReads.{IsScanned}
+use Rattle.cc_flush.specs.Openings.{RecordsFail}
 use Rattle.cc_flush.proofs.FoundSides.{found_there, reads_four}
 use Rattle.cc_flush.proofs.opening.read_sides.Goals as goal
 

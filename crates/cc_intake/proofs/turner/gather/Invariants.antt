@@ -2,7 +2,7 @@ use Rattle.std.proofs.Common.{◌≡◌, ◌≤◌, ◌-◌, List, ◌++◌, len
 use Rattle.cc_journal.specs.declared.entry.Entry.{Entry}
 use Rattle.cc_journal.specs.Batches.{AreLawful}
 use Rattle.cc_intake.specs.Histories.{life_limit}
-use Rattle.cc_intake.specs.Turning.{listed}
+use Rattle.cc_intake.specs.Turners.{listed}
 use Rattle.cc_intake.proofs.turner.gather.Given as goal
 
 abbrev pub invariant-loop-consumer : goal.invariant-loop-consumer

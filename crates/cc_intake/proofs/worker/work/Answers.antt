@@ -1,6 +1,6 @@
 use Rattle.std.proofs.Common.{◌+◌, [], ◌∷◌, ◌++◌, sym, ap, ◌∙◌, subst}
 use Rattle.cc_intake.specs.Talks.{IsAnswer, places_of, step, IsAbove}
-use Rattle.cc_intake.proofs.Talking.{spoke-push, places-push, rise-push, step-add}
+use Rattle.cc_intake.proofs.TalkSteps.{spoke-push, places-push, rise-push, step-add}
 use Rattle.cc_intake.proofs.worker.work.Goals as goal
 
 pub loop-preserved : goal.loop-preserved

@@ -5,7 +5,7 @@ use Rattle.std.proofs.lemmas.Option.{MatchOption-at_some, MatchOption-at_none}
 use Rattle.cc_messages.specs.declared.event.Event.{Event}
 use Rattle.cc_wire.specs.Events.{SpellsEvent}
 use Rattle.cc_wire.proofs.Spelled.{IsBytes-take}
-use Rattle.cc_journal.proofs.EventReading.{four_bytes, none_spelled, one_found}
+use Rattle.cc_journal.proofs.EventReadLaws.{four_bytes, none_spelled, one_found}
 use Rattle.cc_journal.proofs.events.first_event.Goals as goal
 
 -- what stands behind the size

@@ -1,8 +1,8 @@
 use Rattle.std.proofs.Common.{drop-cons, ◌≡◌, ℕ, ◌-◌, List, [], ◌∷◌, ◌++◌, length, take, drop, get_or, ap, subst, ◌∙◌, arith, length-append}
 use Rattle.std.proofs.lemmas.List.{length-drop, drop-drop, drop_all, take_all}
 use Rattle.std.proofs.lemmas.Option.{MatchOption-at_some, MatchOption-at_none}
-use Rattle.cc_journal.specs.Reading.{NoEvent, BeginsWith}
-use Rattle.cc_journal.proofs.EventReading.{IsRead, one_more, all_read, none_next, none_behind}
+use Rattle.cc_journal.specs.EventReads.{NoEvent, BeginsWith}
+use Rattle.cc_journal.proofs.EventReadLaws.{IsRead, one_more, all_read, none_next, none_behind}
 use Rattle.cc_journal.proofs.events.read_events.Goals as goal
 
 pub returns-in_default-2 : goal.returns-in_default-2

@@ -1,5 +1,5 @@
 use Rattle.std.proofs.Common.{◌≡◌, ◌≤◌, length, drop}
-use Rattle.cc_journal.proofs.EventReading.{IsRead}
+use Rattle.cc_journal.proofs.EventReadLaws.{IsRead}
 use Rattle.cc_journal.proofs.events.read_events.Given as goal
 
 abbrev pub invariant-loop : goal.invariant-loop

@@ -3,8 +3,8 @@ use Rattle.std.specs.Prelude.{MatchBool}
 use Rattle.std.proofs.lemmas.Option.{MatchOption-at_some}
 use Rattle.cc_messages.specs.declared.event.Event.{Event}
 use Rattle.cc_node.specs.Node.{after, IsLawful}
-use Rattle.cc_journal.specs.Reading.{SpellsEvents}
-use Rattle.cc_journal.proofs.EventReading.{one_list}
+use Rattle.cc_journal.specs.EventReads.{SpellsEvents}
+use Rattle.cc_journal.proofs.EventReadLaws.{one_list}
 use Rattle.cc_journal.proofs.events.take_events.Goals as goal
 
 pub returns-else-branch : goal.returns-else-branch

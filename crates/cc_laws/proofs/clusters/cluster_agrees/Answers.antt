@@ -1,4 +1,4 @@
-use Rattle.cc_laws.proofs.Agreeing.{all_written, one_value, views_commute}
+use Rattle.cc_laws.proofs.Agreement.{all_written, one_value, views_commute}
 use Rattle.cc_laws.proofs.clusters.cluster_agrees.Goals as goal
 
 pub returns : goal.returns

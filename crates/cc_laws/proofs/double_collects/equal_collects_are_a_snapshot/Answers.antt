@@ -1,5 +1,5 @@
-use Rattle.cc_laws.proofs.DoubleCollecting.{no_both, none_later, within, sees, in_turn, comparable}
-use Rattle.cc_laws.proofs.Linearizing.{linearized}
+use Rattle.cc_laws.proofs.DoubleCollectSteps.{no_both, none_later, within, sees, in_turn, comparable}
+use Rattle.cc_laws.proofs.Linearization.{linearized}
 use Rattle.cc_laws.proofs.double_collects.equal_collects_are_a_snapshot.Goals as goal
 
 pub returns : goal.returns

@@ -1,7 +1,7 @@
 use Rattle.std.proofs.Common.{subst}
 use Rattle.cc_views.specs.Rows.{ViewMap}
 use Rattle.cc_laws.specs.Shown.{Has}
-use Rattle.cc_laws.proofs.Appearing.{views_appear}
+use Rattle.cc_laws.proofs.Appearances.{views_appear}
 use Rattle.cc_laws.proofs.OwnWrites.{own_last, own_written}
 use Rattle.cc_laws.proofs.histories.one_line.Goals as goal
 

@@ -1,4 +1,4 @@
-use Rattle.cc_laws.proofs.Following.{next_follows, views_follow, comparable, one_value}
+use Rattle.cc_laws.proofs.LaterViews.{next_follows, views_follow, comparable, one_value}
 use Rattle.cc_laws.proofs.histories.views_follow.Goals as goal
 
 pub returns : goal.returns

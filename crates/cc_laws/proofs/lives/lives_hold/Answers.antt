@@ -1,11 +1,11 @@
 use Rattle.std.proofs.Common.{subst}
 use Rattle.cc_views.specs.Rows.{ViewMap}
-use Rattle.cc_node.specs.Opening.{fresh}
+use Rattle.cc_node.specs.Openings.{fresh}
 use Rattle.cc_node.proofs.FreshLaws.{fresh_lawful}
 use Rattle.cc_laws.specs.Shown.{Has}
-use Rattle.cc_laws.proofs.Following.{comparable, one_value}
-use Rattle.cc_laws.proofs.Holding.{seen_views, seen_grows}
-use Rattle.cc_laws.proofs.Joining.{join}
+use Rattle.cc_laws.proofs.LaterViews.{comparable, one_value}
+use Rattle.cc_laws.proofs.HeldOutputs.{seen_views, seen_grows}
+use Rattle.cc_laws.proofs.JoinedLives.{join}
 use Rattle.cc_laws.proofs.OwnWrites.{own_written}
 use Rattle.cc_laws.proofs.lives.lives_hold.Goals as goal
 

@@ -1,4 +1,4 @@
-use Rattle.cc_laws.proofs.Joining.{join}
+use Rattle.cc_laws.proofs.JoinedLives.{join}
 use Rattle.cc_laws.proofs.lives.lives_join.Goals as goal
 
 pub returns : goal.returns

@@ -1,4 +1,4 @@
-use Rattle.cc_laws.proofs.Counting.{counted_is, ended_is, anew_is, counted_along, round_enough}
+use Rattle.cc_laws.proofs.Counted.{counted_is, ended_is, anew_is, counted_along, round_enough}
 use Rattle.cc_laws.proofs.rounds.rounds_are_shown.Goals as goal
 
 pub returns : goal.returns

@@ -1,4 +1,4 @@
-use Rattle.cc_node.proofs.Restoring.{ids_within}
+use Rattle.cc_node.proofs.RestoredRows.{ids_within}
 use Rattle.cc_node.proofs.core_parts.have_entered.Goals as goal
 
 pub returns : goal.returns

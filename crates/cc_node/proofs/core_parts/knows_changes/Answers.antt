@@ -1,7 +1,7 @@
 use Rattle.std.proofs.Common.{sym, ◌∙◌}
 use Rattle.std.specs.Prelude.{◌↔◌, IsTrue}
 use Rattle.cc_views.specs.NatSets.{IsWithin}
-use Rattle.cc_node.proofs.Restoring.{ids_within}
+use Rattle.cc_node.proofs.RestoredRows.{ids_within}
 use Rattle.cc_node.proofs.core_parts.knows_changes.Goals as goal
 use Rattle.cc_node.proofs.core_parts.knows_changes.Goals.{After-knows_all, After-knows_all-2}
 

@@ -1,4 +1,4 @@
-use Rattle.cc_node.proofs.Restoring.{view_within}
+use Rattle.cc_node.proofs.RestoredRows.{view_within}
 use Rattle.cc_node.proofs.core_parts.knows_view.Goals as goal
 
 pub returns : goal.returns

@@ -1,10 +1,10 @@
 use Rattle.std.proofs.Common.{◌≡◌, ◌≤◌, List, length, sym, ap, subst, ◌∙◌}
 use Rattle.std.specs.List.{list_all}
 use Rattle.cc_ops.specs.Stages.{stage_of, WaitsBehind}
-use Rattle.cc_ops.specs.Waiting.{line_limit}
-use Rattle.cc_ops.specs.declared.pending.Asked.{Asked}
+use Rattle.cc_ops.specs.WaitingAsks.{line_limit}
+use Rattle.cc_ops.specs.declared.pending_operation.Asked.{Asked}
 use Rattle.cc_node.specs.Parts.{is_last_of}
-use Rattle.cc_node.proofs.Restoring.{asks_pass}
+use Rattle.cc_node.proofs.RestoredRows.{asks_pass}
 use Rattle.cc_node.proofs.core_parts.line_fits.Goals as goal
 
 pub returns-then-not-are_last_requests-clause-fits : goal.returns-then-not-are_last_requests-clause-fits

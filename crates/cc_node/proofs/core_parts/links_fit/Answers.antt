@@ -2,7 +2,7 @@ use Rattle.std.proofs.Common.{ap, arith, length}
 use Rattle.std.specs.FinMap as table
 use Rattle.std.proofs.lemmas.List.{length-map}
 use Rattle.cc_links.specs.Rows.{row_of}
-use Rattle.cc_node.proofs.Restoring.{links_pass}
+use Rattle.cc_node.proofs.RestoredRows.{links_pass}
 use Rattle.cc_node.proofs.core_parts.links_fit.Goals as goal
 
 pub returns-clause-fit : goal.returns-clause-fit

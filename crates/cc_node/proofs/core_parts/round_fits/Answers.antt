@@ -1,9 +1,9 @@
 use Rattle.std.proofs.Common.{◌≡◌, List, arith, ap, sym, subst, ◌∙◌}
 use Rattle.std.specs.List.{list_all}
-use Rattle.cc_ops.specs.declared.pending.Asked.{Asked}
+use Rattle.cc_ops.specs.declared.pending_operation.Asked.{Asked}
 use Rattle.cc_node.specs.Lawful.{IsBeside}
 use Rattle.cc_node.specs.Parts.{is_last_of}
-use Rattle.cc_node.proofs.Restoring.{asks_pass}
+use Rattle.cc_node.proofs.RestoredRows.{asks_pass}
 use Rattle.cc_node.proofs.core_parts.round_fits.Goals as goal
 
 pub returns : goal.returns

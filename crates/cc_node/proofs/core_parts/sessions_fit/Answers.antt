@@ -1,4 +1,4 @@
-use Rattle.cc_node.proofs.Restoring.{sessions_pass}
+use Rattle.cc_node.proofs.RestoredRows.{sessions_pass}
 use Rattle.cc_node.proofs.core_parts.sessions_fit.Goals as goal
 
 pub returns-clause-fit : goal.returns-clause-fit

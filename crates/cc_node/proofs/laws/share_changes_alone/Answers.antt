@@ -1,5 +1,5 @@
 use Rattle.std.proofs.Common.{refl}
-use Rattle.cc_node.proofs.Deciding.{spent_share}
+use Rattle.cc_node.proofs.PartDecisions.{spent_share}
 use Rattle.cc_node.proofs.ShareLaws.{next_share, share_last, share_again}
 use Rattle.cc_node.proofs.laws.share_changes_alone.Goals as goal
 

@@ -1,4 +1,4 @@
-use Rattle.cc_node.proofs.Restoring.{answers_finished}
+use Rattle.cc_node.proofs.RestoredRows.{answers_finished}
 use Rattle.cc_node.proofs.node.keeps_answers.Goals as goal
 
 pub returns : goal.returns

@@ -3,7 +3,7 @@ use Rattle.std.specs.List.{flat_map}
 use Rattle.std.specs.List.Sorted.{IsPermutation}
 use Rattle.std.proofs.lemmas.List.Filters.{dedup_is}
 use Rattle.cc_views.specs.declared.row.Row.{Row}
-use Rattle.cc_views.specs.Ascending.{IsAscending}
+use Rattle.cc_views.specs.AscendingLists.{IsAscending}
 use Rattle.cc_views.specs.NatSets.{items}
 use Rattle.cc_views.specs.Rows.{rows_of}
 use Rattle.cc_objects.proofs.Readings.{ascending_dedup, as_many_rows, items_of_union}

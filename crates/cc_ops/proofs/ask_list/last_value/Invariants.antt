@@ -1,5 +1,5 @@
 use Rattle.std.proofs.Common.{◌≡◌, drop}
-use Rattle.cc_ops.specs.Waiting.{written_by}
+use Rattle.cc_ops.specs.WaitingAsks.{written_by}
 use Rattle.cc_ops.proofs.ask_list.last_value.Given as goal
 
 abbrev pub invariant-loop-asked : goal.invariant-loop-asked

@@ -1,4 +1,4 @@
-use Rattle.cc_protocol.proofs.RoutingLaws.{connection_asked, connection_judged, ask_refused, connection_others, connection_closed}
+use Rattle.cc_protocol.proofs.RouteLaws.{connection_asked, connection_judged, ask_refused, connection_others, connection_closed}
 use Rattle.cc_protocol.proofs.routes.answers_follow_asks.Goals as goal
 
 pub returns-clause-asked : goal.returns-clause-asked

@@ -1,4 +1,4 @@
-use Rattle.cc_sides.specs.States.{state_at}
+use Rattle.cc_states.specs.States.{state_at}
 use Rattle.std.proofs.Common.{refl}
 use Rattle.cc_states.proofs.TableReads.{err_is}
 use Rattle.cc_states.proofs.SourceLaws.{misses_then}

@@ -1,7 +1,7 @@
 use Rattle.std.proofs.Common.{rules, refl}
 use Rattle.cc_outbox.specs.Rows.{entry_of}
 use Rattle.cc_wire.proofs.Items.{is_done}
-use Rattle.cc_sides.specs.States.{kept_answer_at}
+use Rattle.cc_states.specs.States.{kept_answer_at}
 use Rattle.cc_states.proofs.TableReads.{err_is, row_read}
 use Rattle.cc_states.proofs.SourceLaws.{misses_along}
 use Rattle.cc_states.proofs.field_reader.read_kept_answers.Goals as goal

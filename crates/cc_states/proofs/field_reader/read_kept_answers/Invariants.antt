@@ -1,6 +1,6 @@
 use Rattle.std.specs.Prelude.{None}
 use Rattle.cc_outbox.specs.Rows.{entry_of}
-use Rattle.cc_sides.specs.States.{rows_at, kept_answer_at}
+use Rattle.cc_states.specs.States.{rows_at, kept_answer_at}
 use Rattle.cc_states.proofs.TableReads.{RowsRead}
 use Rattle.cc_states.proofs.field_reader.read_kept_answers.Given as goal
 

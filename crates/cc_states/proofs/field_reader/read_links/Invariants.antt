@@ -1,6 +1,6 @@
 use Rattle.std.specs.Prelude.{◌≤◌, None}
 use Rattle.cc_links.specs.Rows.{entry_of}
-use Rattle.cc_sides.specs.States.{rows_at, link_at}
+use Rattle.cc_states.specs.States.{rows_at, link_at}
 use Rattle.cc_states.proofs.TableReads.{RowsRead}
 use Rattle.cc_states.proofs.field_reader.read_links.Given as goal
 

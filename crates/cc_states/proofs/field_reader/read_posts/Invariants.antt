@@ -1,6 +1,6 @@
 use Rattle.std.specs.Prelude.{◌≡◌, ◌-◌, length, None}
 use Rattle.cc_wire.proofs.Items.{with_front}
-use Rattle.cc_sides.specs.States.{posts_at}
+use Rattle.cc_states.specs.States.{posts_at}
 use Rattle.cc_states.proofs.field_reader.read_posts.Given as goal
 
 abbrev pub invariant-loop : goal.invariant-loop

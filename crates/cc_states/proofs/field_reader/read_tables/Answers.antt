@@ -1,4 +1,4 @@
-use Rattle.cc_sides.specs.States.{tables_at}
+use Rattle.cc_states.specs.States.{tables_at}
 use Rattle.cc_states.proofs.TableReads.{err_is}
 use Rattle.cc_states.proofs.SourceLaws.{misses_then}
 use Rattle.cc_states.proofs.field_reader.read_tables.Goals as goal

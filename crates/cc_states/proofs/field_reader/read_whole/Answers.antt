@@ -1,4 +1,4 @@
-use Rattle.cc_wire.specs.Reading.{whole}
+use Rattle.cc_wire.specs.Readers.{whole}
 use Rattle.cc_states.proofs.TableReads.{err_is}
 use Rattle.cc_states.proofs.SourceLaws.{misses_then}
 use Rattle.cc_states.proofs.field_reader.read_whole.Goals as goal

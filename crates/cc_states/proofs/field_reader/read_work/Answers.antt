@@ -1,4 +1,4 @@
-use Rattle.cc_sides.specs.States.{work_at}
+use Rattle.cc_states.specs.States.{work_at}
 use Rattle.cc_states.proofs.SourceLaws.{misses_then}
 use Rattle.cc_states.proofs.field_reader.read_work.Goals as goal
 use Rattle.std.proofs.Common.{refl}

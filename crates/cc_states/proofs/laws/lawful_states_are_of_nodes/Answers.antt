@@ -1,5 +1,5 @@
 use Rattle.std.proofs.Common.{subst, sym}
-use Rattle.cc_sides.specs.States.{SpellsState}
+use Rattle.cc_states.specs.States.{SpellsState}
 use Rattle.cc_states.proofs.NodeStates.{state_of-node_of}
 use Rattle.cc_states.proofs.laws.lawful_states_are_of_nodes.Goals as goal
 

@@ -1,6 +1,6 @@
 use Rattle.std.proofs.Common.{refl}
 use Rattle.cc_outbox.specs.Rows.{entry_of, row_of}
-use Rattle.cc_sides.specs.States.{IsKeptAnswer}
+use Rattle.cc_states.specs.States.{IsKeptAnswer}
 use Rattle.cc_states.proofs.TableWrites.{table_fits}
 use Rattle.cc_states.proofs.spellable.answers_are_spellable.Goals as goal
 

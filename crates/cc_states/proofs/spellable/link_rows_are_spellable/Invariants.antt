@@ -1,7 +1,7 @@
 use Rattle.std.proofs.Common.{take}
 use Rattle.std.specs.List.{AllByRecursion}
 use Rattle.cc_links.specs.Rows.{entry_of}
-use Rattle.cc_sides.specs.States.{IsLink}
+use Rattle.cc_states.specs.States.{IsLink}
 use Rattle.cc_states.proofs.spellable.link_rows_are_spellable.Given as goal
 
 abbrev pub invariant-loop-row : goal.invariant-loop-row

@@ -1,7 +1,7 @@
 use Rattle.std.proofs.Common.{take}
 use Rattle.std.specs.List.{AllByRecursion}
 use Rattle.cc_sessions.specs.Rows.{entry_of}
-use Rattle.cc_sides.specs.States.{IsSession}
+use Rattle.cc_states.specs.States.{IsSession}
 use Rattle.cc_states.proofs.spellable.session_rows_are_spellable.Given as goal
 
 abbrev pub invariant-loop-row : goal.invariant-loop-row

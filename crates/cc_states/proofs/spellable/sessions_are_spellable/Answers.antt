@@ -1,6 +1,6 @@
 use Rattle.std.proofs.Common.{refl}
 use Rattle.cc_sessions.specs.Rows.{entry_of, row_of}
-use Rattle.cc_sides.specs.States.{IsSession}
+use Rattle.cc_states.specs.States.{IsSession}
 use Rattle.cc_states.proofs.TableWrites.{table_fits}
 use Rattle.cc_states.proofs.spellable.sessions_are_spellable.Goals as goal
 

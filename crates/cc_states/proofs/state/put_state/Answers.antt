@@ -1,7 +1,7 @@
 use Rattle.std.proofs.Common.{◌<◌, [], List, ℕ, length, subst, ap, ◌∙◌, Ok, Err, arith}
 use Rattle.std.proofs.lemmas.List.{get_or_default, take_all}
 use Rattle.std.proofs.lemmas.Result.{err_from_is_err_and}
-use Rattle.cc_wire.specs.Writing.{Writes}
+use Rattle.cc_wire.specs.Writers.{Writes}
 use Rattle.cc_wire.proofs.Writes.{each_stops, each_more}
 use Rattle.cc_states.specs.Parts.{parts_of, joined}
 use Rattle.cc_states.proofs.PartLaws.{parts_spell}

@@ -1,5 +1,5 @@
 use Rattle.std.proofs.Common.{take, Ok}
-use Rattle.cc_wire.specs.Writing.{Writes}
+use Rattle.cc_wire.specs.Writers.{Writes}
 use Rattle.cc_states.specs.Parts.{parts_of, joined}
 use Rattle.cc_states.proofs.state.put_state.Given as goal
 

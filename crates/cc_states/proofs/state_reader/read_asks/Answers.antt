@@ -1,6 +1,6 @@
 use Rattle.std.proofs.Common.{◌+◌, ◌∙◌, arith, ap}
 use Rattle.std.proofs.lemmas.List.{length_push}
-use Rattle.cc_sides.specs.States.{ask_at}
+use Rattle.cc_states.specs.States.{ask_at}
 use Rattle.cc_wire.proofs.Items.{ends, is_done}
 use Rattle.cc_states.proofs.TableReads.{err_is, many_go_on}
 use Rattle.cc_states.proofs.state_reader.read_asks.Goals as goal

@@ -1,6 +1,6 @@
 use Rattle.std.proofs.Common.{◌≡◌, ◌-◌, length}
 use Rattle.cc_wire.proofs.Items.{with_front}
-use Rattle.cc_sides.specs.States.{asks_at}
+use Rattle.cc_states.specs.States.{asks_at}
 use Rattle.cc_states.proofs.state_reader.read_asks.Given as goal
 
 abbrev pub invariant-loop : goal.invariant-loop

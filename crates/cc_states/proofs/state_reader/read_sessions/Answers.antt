@@ -1,7 +1,7 @@
 use Rattle.std.proofs.Common.{rules, arith}
 use Rattle.cc_sessions.specs.Rows.{entry_of}
 use Rattle.cc_wire.proofs.Items.{ends, is_done}
-use Rattle.cc_sides.specs.States.{session_at}
+use Rattle.cc_states.specs.States.{session_at}
 use Rattle.cc_states.proofs.TableReads.{err_is, row_read}
 use Rattle.cc_states.proofs.state_reader.read_sessions.Goals as goal
 

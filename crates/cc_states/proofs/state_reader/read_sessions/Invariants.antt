@@ -1,7 +1,7 @@
 use Rattle.std.specs.Prelude.{◌≤◌, ⊤}
 use Rattle.std.specs.Vec.{vec_capacity}
 use Rattle.cc_sessions.specs.Rows.{entry_of}
-use Rattle.cc_sides.specs.States.{rows_at, session_at}
+use Rattle.cc_states.specs.States.{rows_at, session_at}
 use Rattle.cc_states.proofs.TableReads.{RowsRead}
 use Rattle.cc_states.proofs.state_reader.read_sessions.Given as goal
 

@@ -1,6 +1,6 @@
 use Rattle.std.proofs.lemmas.Result.{err_from_is_err_and}
 use Rattle.cc_wire.proofs.Writes.{each_stops, each_more}
-use Rattle.cc_sides.specs.States.{ask_spelling}
+use Rattle.cc_states.specs.States.{ask_spelling}
 use Rattle.cc_states.proofs.state_writer.put_asks.Goals as goal
 
 pub returns-in_err-put_ask : goal.returns-in_err-put_ask

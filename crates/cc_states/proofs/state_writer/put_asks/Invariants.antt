@@ -1,7 +1,7 @@
 use Rattle.std.proofs.Common.{take, Ok}
 use Rattle.std.specs.List.{flat_map}
-use Rattle.cc_wire.specs.Writing.{Writes}
-use Rattle.cc_sides.specs.States.{ask_spelling}
+use Rattle.cc_wire.specs.Writers.{Writes}
+use Rattle.cc_states.specs.States.{ask_spelling}
 use Rattle.cc_states.proofs.state_writer.put_asks.Given as goal
 
 abbrev pub invariant-loop-asked : goal.invariant-loop-asked

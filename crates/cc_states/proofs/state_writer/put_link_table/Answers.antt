@@ -1,6 +1,6 @@
 use Rattle.std.proofs.Common.{refl}
 use Rattle.cc_links.specs.Rows.{entry_of, row_of}
-use Rattle.cc_sides.specs.States.{link_spelling}
+use Rattle.cc_states.specs.States.{link_spelling}
 use Rattle.cc_states.proofs.TableWrites.{table_writes}
 use Rattle.cc_states.proofs.state_writer.put_link_table.Goals as goal
 

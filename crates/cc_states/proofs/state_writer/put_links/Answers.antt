@@ -1,7 +1,7 @@
 use Rattle.std.proofs.lemmas.Result.{err_from_is_err_and}
 use Rattle.cc_wire.proofs.Writes.{each_stops, each_more}
 use Rattle.cc_links.specs.Rows.{entry_of}
-use Rattle.cc_sides.specs.States.{link_spelling}
+use Rattle.cc_states.specs.States.{link_spelling}
 use Rattle.cc_states.proofs.state_writer.put_links.Goals as goal
 
 pub returns-in_err-put_link : goal.returns-in_err-put_link

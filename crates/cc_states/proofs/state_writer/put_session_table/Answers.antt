@@ -1,6 +1,6 @@
 use Rattle.std.proofs.Common.{refl}
 use Rattle.cc_sessions.specs.Rows.{entry_of, row_of}
-use Rattle.cc_sides.specs.States.{session_spelling}
+use Rattle.cc_states.specs.States.{session_spelling}
 use Rattle.cc_states.proofs.TableWrites.{table_writes}
 use Rattle.cc_states.proofs.state_writer.put_session_table.Goals as goal
 

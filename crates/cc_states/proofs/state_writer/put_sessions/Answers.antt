@@ -2,7 +2,7 @@ use Rattle.std.proofs.lemmas.List.{get_or_default}
 use Rattle.std.proofs.lemmas.Result.{err_from_is_err_and}
 use Rattle.cc_wire.proofs.Writes.{each_stops, each_more}
 use Rattle.cc_sessions.specs.Rows.{entry_of}
-use Rattle.cc_sides.specs.States.{session_spelling}
+use Rattle.cc_states.specs.States.{session_spelling}
 use Rattle.cc_states.proofs.state_writer.put_sessions.Goals as goal
 
 pub returns-in_err-put_session : goal.returns-in_err-put_session

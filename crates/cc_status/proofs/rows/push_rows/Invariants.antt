@@ -1,5 +1,5 @@
 use Rattle.std.proofs.Common.{◌≡◌, ◌++◌, map, take}
-use Rattle.cc_status.specs.Showing.{told_row, row_told}
+use Rattle.cc_status.specs.ShownNodes.{told_row, row_told}
 use Rattle.cc_status.proofs.rows.push_rows.Given as goal
 
 abbrev pub invariant-loop-row : goal.invariant-loop-row

@@ -1,6 +1,6 @@
 use Rattle.std.proofs.Common.{arith, ◌∙◌}
 use Rattle.cc_wire.specs.Commands.{command_at}
-use Rattle.cc_wire.specs.Reading.{whole}
+use Rattle.cc_wire.specs.Readers.{whole}
 use Rattle.cc_wire.proofs.CommandFormat.{command_spelled}
 use Rattle.cc_wire.proofs.Whole.{just_read, whole_found, whole_only}
 use Rattle.cc_wire.proofs.command.decode_command.Goals as goal

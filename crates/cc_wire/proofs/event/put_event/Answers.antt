@@ -1,7 +1,7 @@
 use Rattle.std.proofs.Common.{subst, sym, ◌∷◌, []}
 use Rattle.cc_messages.specs.declared.event.Event.{Event}
 use Rattle.cc_wire.specs.Events.{event_spelling}
-use Rattle.cc_wire.specs.Writing.{Writes}
+use Rattle.cc_wire.specs.Writers.{Writes}
 use Rattle.cc_wire.proofs.Writes.{writes_then}
 use Rattle.cc_wire.proofs.event.put_event.Goals as goal
 

@@ -1,4 +1,4 @@
-use Rattle.cc_wire.specs.Spelling.{IsId}
+use Rattle.cc_wire.specs.Spellings.{IsId}
 use Rattle.cc_wire.proofs.Writes.{all_more}
 use Rattle.cc_wire.proofs.spellable.ids_are_spellable.Goals as goal
 

@@ -1,6 +1,6 @@
 use Rattle.std.proofs.Common.{take}
 use Rattle.std.specs.List.{AllByRecursion}
-use Rattle.cc_wire.specs.Spelling.{IsId}
+use Rattle.cc_wire.specs.Spellings.{IsId}
 use Rattle.cc_wire.proofs.spellable.ids_are_spellable.Given as goal
 
 abbrev pub invariant-loop-id : goal.invariant-loop-id

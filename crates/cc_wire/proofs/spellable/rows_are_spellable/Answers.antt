@@ -1,4 +1,4 @@
-use Rattle.cc_wire.specs.Spelling.{IsRow}
+use Rattle.cc_wire.specs.Spellings.{IsRow}
 use Rattle.cc_wire.proofs.Writes.{all_more}
 use Rattle.cc_wire.proofs.spellable.rows_are_spellable.Goals as goal
 

@@ -1,6 +1,6 @@
 use Rattle.std.proofs.Common.{◌≡◌, ◌≤◌, ◌*◌, length, take}
 use Rattle.std.specs.List.{flat_map}
-use Rattle.cc_wire.specs.Spelling.{row_spelling}
+use Rattle.cc_wire.specs.Spellings.{row_spelling}
 use Rattle.cc_wire.proofs.spelling_lengths.rows_len.Given as goal
 
 abbrev pub invariant-loop-row : goal.invariant-loop-row

@@ -3,7 +3,7 @@ use Rattle.std.specs.Int.{w64, to_be_bytes}
 use Rattle.std.proofs.lemmas.List.{length-append}
 use Rattle.cc_views.specs.NatSets.{items}
 use Rattle.cc_views.specs.NatLists.{len-items}
-use Rattle.cc_wire.specs.Spelling.{text_spelling, flag_spelling, number_set_spelling}
+use Rattle.cc_wire.specs.Spellings.{text_spelling, flag_spelling, number_set_spelling}
 use Rattle.cc_wire.proofs.Lengths.{length-flag, length-numbers}
 use Rattle.cc_wire.proofs.spelling_lengths.value_len.Goals as goal
 

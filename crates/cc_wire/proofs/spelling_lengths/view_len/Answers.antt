@@ -1,6 +1,6 @@
 use Rattle.std.proofs.Common.{arith, ap, length}
 use Rattle.std.specs.List.{flat_map}
-use Rattle.cc_wire.specs.Spelling.{row_spelling}
+use Rattle.cc_wire.specs.Spellings.{row_spelling}
 use Rattle.cc_wire.proofs.Views.{len-rows_of}
 use Rattle.cc_wire.proofs.spelling_lengths.view_len.Goals as goal
 

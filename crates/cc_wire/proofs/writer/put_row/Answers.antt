@@ -1,7 +1,7 @@
 use Rattle.std.proofs.Common.{subst, ◌++◌, ℕ}
 use Rattle.std.specs.Int.{w32, w64, to_be_bytes}
-use Rattle.cc_wire.specs.Spelling.{value_spelling}
-use Rattle.cc_wire.specs.Writing.{Writes}
+use Rattle.cc_wire.specs.Spellings.{value_spelling}
+use Rattle.cc_wire.specs.Writers.{Writes}
 use Rattle.cc_wire.proofs.Writes.{writes_then}
 use Rattle.cc_wire.proofs.writer.put_row.Goals as goal
 

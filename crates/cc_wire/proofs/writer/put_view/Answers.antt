@@ -3,8 +3,8 @@ use Rattle.std.specs.Int.{w16, to_be_bytes}
 use Rattle.std.specs.List.{flat_map}
 use Rattle.cc_views.specs.declared.row.Row.{Row}
 use Rattle.cc_views.specs.Rows.{rows_of}
-use Rattle.cc_wire.specs.Writing.{Writes}
-use Rattle.cc_wire.specs.Spelling.{row_spelling}
+use Rattle.cc_wire.specs.Writers.{Writes}
+use Rattle.cc_wire.specs.Spellings.{row_spelling}
 use Rattle.cc_wire.proofs.Writes.{writes_then}
 use Rattle.cc_wire.proofs.Views.{len-rows_of}
 use Rattle.cc_wire.proofs.writer.put_view.Goals as goal

@@ -1,7 +1,7 @@
 use Rattle.std.proofs.Common.{arith}
 use Rattle.std.specs.Int.{w64, to_be_bytes}
 use Rattle.std.proofs.lemmas.List.{length-append}
-use Rattle.cc_wire.specs.Spelling.{value_spelling}
+use Rattle.cc_wire.specs.Spellings.{value_spelling}
 use Rattle.cc_checkpoint.proofs.elements.OwnAtElement.len.Goals as goal
 
 pub returns : goal.returns

@@ -1,7 +1,7 @@
 use Rattle.std.proofs.Common.{sym, subst}
 use Rattle.std.proofs.lemmas.Result.{err_from_is_err_and}
 use Rattle.cc_flush.specs.Lives.{HasDone, FailsIn, IsTurnLawful}
-use Rattle.cc_flush.proofs.Advancing.{put_advances, turn_advances, turn_given_up}
+use Rattle.cc_flush.proofs.LifeSteps.{put_advances, turn_advances, turn_given_up}
 use Rattle.cc_flush.proofs.flusher.Flusher.act.Goals as goal
 
 pub returns-in_err-flushed-in-Turn-clause-acts : goal.returns-in_err-flushed-in-Turn-clause-acts

@@ -1,6 +1,6 @@
 use Rattle.std.proofs.Common.{◌≡◌, refl, sym, subst, arith}
 use Rattle.std.specs.Prelude.{false, None}
-use Rattle.cc_flush.proofs.MovingRuns.{MoveStays, still_stays, moved_stays, moved_sound}
+use Rattle.cc_flush.proofs.CheckpointRuns.{MoveStays, still_stays, moved_stays, moved_sound}
 use Rattle.cc_flush.proofs.flusher.Flusher.checkpoint.Goals as goal
 
 pub overflow_add-self : goal.overflow_add-self

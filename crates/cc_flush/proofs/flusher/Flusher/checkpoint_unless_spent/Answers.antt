@@ -1,6 +1,6 @@
 use Rattle.std.proofs.Common.{subst}
-use Rattle.cc_flush.specs.Moving.{MoveStops}
-use Rattle.cc_flush.proofs.Advancing.{move_done, spent_done, move_given_up}
+use Rattle.cc_flush.specs.Checkpoints.{MoveStops}
+use Rattle.cc_flush.proofs.LifeSteps.{move_done, spent_done, move_given_up}
 use Rattle.cc_flush.proofs.flusher.Flusher.checkpoint_unless_spent.Goals as goal
 
 pub returns-in-Ok-clause-acts : goal.returns-in-Ok-clause-acts

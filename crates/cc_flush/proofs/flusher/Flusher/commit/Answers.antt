@@ -5,7 +5,7 @@ use Rattle.cc_site.specs.Sides.{other}
 use Rattle.cc_journal.specs.Batches.{AreLawful, events_in, batch_bytes}
 use Rattle.cc_journal.specs.Journals.{end_ahead, zeros_ahead}
 use Rattle.cc_flush.specs.Engine.{IsSettled}
-use Rattle.cc_flush.proofs.Keeping.{good_now, ready, committed_stands, BatchMoments, batch_moments}
+use Rattle.cc_flush.proofs.KeptSides.{good_now, ready, committed_stands, BatchMoments, batch_moments}
 use Rattle.cc_flush.proofs.Lengths.{end_within}
 use Rattle.cc_flush.proofs.flusher.Flusher.commit.Goals as goal
 

@@ -1,6 +1,6 @@
 use Rattle.std.proofs.Common.{ap, subst}
 use Rattle.cc_journal.specs.Batches.{events_in}
-use Rattle.cc_flush.proofs.Flushing.{call_keeps_sides, flushed, Released}
+use Rattle.cc_flush.proofs.CommitSteps.{call_keeps_sides, flushed, Released}
 use Rattle.cc_flush.proofs.flusher.Flusher.flush.Goals as goal
 
 pub returns-in-Err-clause-flushed : goal.returns-in-Err-clause-flushed

@@ -1,8 +1,8 @@
 use Rattle.std.proofs.Common.{◌≤◌, ◌+◌, ◌∙◌, [], length, refl, sym, ap, subst}
 use Rattle.cc_site.specs.Sides.{other}
-use Rattle.cc_sides.specs.Fronts.{holds_within}
+use Rattle.cc_states.specs.Fronts.{holds_within}
 use Rattle.cc_flush.proofs.FoundSides.{are_settled}
-use Rattle.cc_flush.proofs.Keeping.{good_now, rests_there}
+use Rattle.cc_flush.proofs.KeptSides.{good_now, rests_there}
 use Rattle.cc_flush.proofs.flusher.Flusher.open.Goals as goal
 
 pub invariant_of-result : goal.invariant_of-result

@@ -1,8 +1,8 @@
 use Rattle.std.proofs.Common.{◌≡◌, sym, subst}
 use Rattle.std.specs.Prelude.{false, None}
-use Rattle.cc_flush.specs.Standing.{ack_again}
-use Rattle.cc_flush.proofs.Keeping.{sound_put}
-use Rattle.cc_flush.proofs.Putting.{put_again}
+use Rattle.cc_flush.specs.Resends.{ack_again}
+use Rattle.cc_flush.proofs.KeptSides.{sound_put}
+use Rattle.cc_flush.proofs.PutOutputs.{put_again}
 use Rattle.cc_flush.proofs.Resends.{ack_stands}
 use Rattle.cc_flush.proofs.flusher.Flusher.reack.Goals as goal
 

@@ -4,9 +4,9 @@ use Rattle.cc_journal.specs.Batches.{events_in}
 use Rattle.cc_journal.specs.GoodSides.{MayBeLeft, EachLeaves}
 use Rattle.cc_journal.specs.Journals.{StaysGood}
 use Rattle.cc_flush.specs.Engine.{IsOwed}
-use Rattle.cc_flush.specs.Flushing.{LeadsToOwed}
-use Rattle.cc_flush.proofs.Keeping.{sound_released}
-use Rattle.cc_flush.proofs.Putting.{released}
+use Rattle.cc_flush.specs.Commits.{LeadsToOwed}
+use Rattle.cc_flush.proofs.KeptSides.{sound_released}
+use Rattle.cc_flush.proofs.PutOutputs.{released}
 use Rattle.cc_flush.proofs.flusher.Flusher.release.Goals as goal
 
 pub returns-clause-good : goal.returns-clause-good

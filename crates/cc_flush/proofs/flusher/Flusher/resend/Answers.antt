@@ -1,8 +1,8 @@
 use Rattle.std.proofs.Common.{◌≡◌, sym, subst}
 use Rattle.std.specs.Prelude.{false, None}
-use Rattle.cc_flush.specs.Standing.{resends}
-use Rattle.cc_flush.proofs.Keeping.{sound_put}
-use Rattle.cc_flush.proofs.Putting.{put_again}
+use Rattle.cc_flush.specs.Resends.{resends}
+use Rattle.cc_flush.proofs.KeptSides.{sound_put}
+use Rattle.cc_flush.proofs.PutOutputs.{put_again}
 use Rattle.cc_flush.proofs.Resends.{resends_stand}
 use Rattle.cc_flush.proofs.flusher.Flusher.resend.Goals as goal
 

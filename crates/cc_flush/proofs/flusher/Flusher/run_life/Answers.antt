@@ -2,9 +2,9 @@ use Rattle.std.proofs.Common.{◌≡◌, inl, inr, [], ◌∷◌, length, refl, 
 use Rattle.std.proofs.lemmas.List.{nil_from_length}
 use Rattle.std.proofs.lemmas.Result.{err_from_is_err_and}
 use Rattle.std.specs.Vec.Iter.{into_iter_items}
-use Rattle.cc_flush.specs.Flushing.{HasLived}
+use Rattle.cc_flush.specs.Commits.{HasLived}
 use Rattle.cc_flush.specs.Lives.{AreTurnsLawful}
-use Rattle.cc_flush.proofs.Advancing.{stays, parts_more, done_more, one_more, run_ended, run_failed}
+use Rattle.cc_flush.proofs.LifeSteps.{stays, parts_more, done_more, one_more, run_ended, run_failed}
 use Rattle.cc_flush.proofs.flusher.Flusher.run_life.Goals as goal
 
 pub returns-in-Some-clause-run : goal.returns-in-Some-clause-run

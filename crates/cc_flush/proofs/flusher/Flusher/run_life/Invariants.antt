@@ -1,7 +1,7 @@
 use Rattle.std.proofs.Common.{◌≡◌, ◌++◌, length}
 use Rattle.std.specs.Vec.Iter.{into_iter_items, into_iter_len}
 use Rattle.cc_flush.specs.Lives.{HaveDone, AreTurnsLawful}
-use Rattle.cc_flush.proofs.Advancing.{Done}
+use Rattle.cc_flush.proofs.LifeSteps.{Done}
 use Rattle.cc_flush.proofs.flusher.Flusher.run_life.Given as goal
 
 abbrev pub invariant-loop-action : goal.invariant-loop-action

@@ -4,7 +4,7 @@ use Rattle.cc_node.specs.Core.{Core, next}
 use Rattle.cc_journal.specs.declared.entry.Entry.{Entry}
 use Rattle.cc_journal.specs.BatchLaws.{core_more}
 use Rattle.cc_intake.specs.Histories.{core_after}
-use Rattle.cc_intake.specs.Accepting.{Accepting}
+use Rattle.cc_intake.specs.Intakes.{Accepting}
 use Rattle.cc_intake.specs.Ends.{End}
 use Rattle.cc_intake.proofs.intake.Intake.accept.Goals as goal
 

@@ -2,9 +2,9 @@ use Rattle.std.proofs.Common.{◌≡◌, refl, ap, ◌∙◌, rules, arith}
 use Rattle.std.proofs.lemmas.Result.{err_from_is_err_and}
 use Rattle.std.specs.Prelude.{Some}
 use Rattle.cc_node.specs.Core.{Core, made}
-use Rattle.cc_intake.specs.Accepting.{Accepting}
+use Rattle.cc_intake.specs.Intakes.{Accepting}
 use Rattle.cc_intake.specs.Histories.{core_after}
-use Rattle.cc_intake.proofs.Refusing.{refuses_own, decides_after, may_accept, refuses_made}
+use Rattle.cc_intake.proofs.RefusedEvents.{refuses_own, decides_after, may_accept, refuses_made}
 use Rattle.cc_intake.proofs.intake.Intake.prepared.Goals as goal
 
 pub returns-in_err-decide-clause-refused : goal.returns-in_err-decide-clause-refused

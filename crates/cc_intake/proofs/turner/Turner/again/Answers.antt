@@ -1,7 +1,7 @@
 use Rattle.std.proofs.Common.{◌≡◌, subst}
 use Rattle.std.specs.Prelude.{None}
-use Rattle.cc_flush.specs.Flushing.{PutsAgain}
-use Rattle.cc_flush.specs.Standing.{reply_again}
+use Rattle.cc_flush.specs.Commits.{PutsAgain}
+use Rattle.cc_flush.specs.Resends.{reply_again}
 use Rattle.cc_intake.proofs.turner.Turner.again.Goals as goal
 
 pub returns-clause-puts : goal.returns-clause-puts

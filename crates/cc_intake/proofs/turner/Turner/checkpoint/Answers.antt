@@ -2,8 +2,8 @@ use Rattle.std.proofs.Common.{◌≡◌, ◌<◌, subst}
 use Rattle.std.specs.Prelude.{None, MatchResult}
 use Rattle.cc_views.specs.Limits.{counter_limit}
 use Rattle.cc_journal.specs.Journals.{StaysGood}
-use Rattle.cc_flush.specs.Flushing.{LeadsTo}
-use Rattle.cc_flush.specs.Moving.{Moves, MoveStops}
+use Rattle.cc_flush.specs.Commits.{LeadsTo}
+use Rattle.cc_flush.specs.Checkpoints.{Moves, MoveStops}
 use Rattle.cc_intake.proofs.turner.Turner.checkpoint.Goals as goal
 
 pub returns-clause-moves : goal.returns-clause-moves

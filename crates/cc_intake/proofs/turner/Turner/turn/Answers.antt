@@ -1,8 +1,8 @@
 use Rattle.std.proofs.Common.{◌+◌, take, refl, sym, ◌∙◌, subst, ◌≡◌, true, false, Some, Ok}
 use Rattle.std.proofs.lemmas.Result.{err_from_is_err_and}
-use Rattle.cc_intake.specs.Turning.{Turning, tells}
+use Rattle.cc_intake.specs.Turners.{Turning, tells}
 use Rattle.cc_intake.specs.Turns.{Turns}
-use Rattle.cc_intake.proofs.Handing.{turned_never, turned_full, lawful_batch, turned, turned_failed, kept_on, kept_failed}
+use Rattle.cc_intake.proofs.TurnerSteps.{turned_never, turned_full, lawful_batch, turned, turned_failed, kept_on, kept_failed}
 use Rattle.cc_intake.proofs.turner.Turner.turn.Goals as goal
 
 pub flush-requires-clause-lawful : goal.flush-requires-clause-lawful

@@ -1,5 +1,5 @@
 use Rattle.std.proofs.Common.{refl}
-use Rattle.cc_node.specs.Opening.{fresh}
+use Rattle.cc_node.specs.Openings.{fresh}
 use Rattle.cc_node.proofs.FreshLaws.{fresh_lawful}
 use Rattle.cc_node.proofs.node.Node.fresh.Goals as goal
 

@@ -3,7 +3,7 @@ use Rattle.std.specs.Prelude.{◌==◌}
 use Rattle.cc_views.specs.Limits.{counter_limit}
 use Rattle.cc_node.specs.Core.{Core, asks_anew}
 use Rattle.cc_node.specs.contracts.node_core.Core.{the_view}
-use Rattle.cc_node.proofs.Deciding.{passes_none, rises}
+use Rattle.cc_node.proofs.PartDecisions.{passes_none, rises}
 use Rattle.cc_node.proofs.node_core.Core.anew_is_spent.Goals as goal
 
 pub returns-then-asks_anew : goal.returns-then-asks_anew

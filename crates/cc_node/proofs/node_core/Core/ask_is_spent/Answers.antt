@@ -10,7 +10,7 @@ use Rattle.cc_node.specs.Core.{Core, next, quorum}
 use Rattle.cc_node.specs.Refusals.{any_overruns, stale, skip}
 use Rattle.cc_node.specs.contracts.node_core.Core.{the_view}
 use Rattle.cc_node.proofs.LawfulLaws.{last_within}
-use Rattle.cc_node.proofs.Deciding.{spent_ask, next_request, or_passes}
+use Rattle.cc_node.proofs.PartDecisions.{spent_ask, next_request, or_passes}
 use Rattle.cc_node.proofs.node_core.Core.ask_is_spent.Goals as goal
 use Rattle.cc_node.proofs.node_core.Core.ask_is_spent.Goals.{After-ask_is_spent, After-posts_are_spent}
 

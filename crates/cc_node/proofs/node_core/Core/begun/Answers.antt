@@ -1,5 +1,5 @@
 use Rattle.std.proofs.Common.{◌≡◌, refl}
-use Rattle.cc_node.specs.Opening.{told, fresh}
+use Rattle.cc_node.specs.Openings.{told, fresh}
 use Rattle.cc_node.proofs.FreshLaws.{fresh_lawful}
 use Rattle.cc_node.proofs.node_core.Core.begun.Goals as goal
 

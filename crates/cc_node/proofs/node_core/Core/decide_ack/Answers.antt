@@ -6,7 +6,7 @@ use Rattle.cc_messages.specs.Refusals.{decided}
 use Rattle.cc_node.specs.Core.{Core}
 use Rattle.cc_node.specs.Refusals.{decides}
 use Rattle.cc_node.specs.contracts.node_core.Core.{the_view}
-use Rattle.cc_node.proofs.Deciding.{ack_refused}
+use Rattle.cc_node.proofs.PartDecisions.{ack_refused}
 use Rattle.cc_node.proofs.node_core.Core.decide_ack.Goals as goal
 
 pub returns-then-not-awaits_ack : goal.returns-then-not-awaits_ack

@@ -2,10 +2,10 @@ use Rattle.std.proofs.Common.{ℕ, List, [], ◌∷◌, sym, ◌∙◌}
 use Rattle.std.specs.Prelude.{Option}
 use Rattle.cc_messages.specs.declared.refusal.Refusal.{Refusal}
 use Rattle.cc_messages.specs.declared.command.Command.{Command}
-use Rattle.cc_ops.specs.Waiting.{line_limit}
+use Rattle.cc_ops.specs.WaitingAsks.{line_limit}
 use Rattle.cc_node.specs.Core.{Core}
 use Rattle.cc_node.specs.Refusals.{decides, decides_within, busy, set_full}
-use Rattle.cc_node.proofs.Deciding.{of_member, of_request, err_there, err_then, ok_later, ok_then, ok_none, is_next}
+use Rattle.cc_node.proofs.PartDecisions.{of_member, of_request, err_there, err_then, ok_later, ok_then, ok_none, is_next}
 use Rattle.cc_node.proofs.node_core.Core.decide_ask.Goals as goal
 
 abbrev pending : ℕ → Command → Core → List (Option Refusal)

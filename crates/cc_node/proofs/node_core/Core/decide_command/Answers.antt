@@ -7,7 +7,7 @@ use Rattle.cc_ops.specs.Ops.{is_idle}
 use Rattle.cc_outbox.specs.Outbox.{post_limit}
 use Rattle.cc_node.specs.Core.{Core, lowest}
 use Rattle.cc_node.specs.Refusals.{outbox_full}
-use Rattle.cc_node.proofs.Deciding.{first_holds, first_passes, posts_if_idle}
+use Rattle.cc_node.proofs.PartDecisions.{first_holds, first_passes, posts_if_idle}
 use Rattle.cc_node.proofs.node_core.Core.decide_command.Goals as goal
 use Rattle.cc_node.proofs.node_core.Core.decide_command.Goals.{After-has_no_room}
 

@@ -1,6 +1,6 @@
 use Rattle.std.proofs.Common.{sym, ◌∙◌}
 use Rattle.cc_node.specs.Refusals.{decides, decides_within}
-use Rattle.cc_node.proofs.Deciding.{of_entered, of_number, err_there, err_then, ok_later, ok_then, ok_none, number_after}
+use Rattle.cc_node.proofs.PartDecisions.{of_entered, of_number, err_there, err_then, ok_later, ok_then, ok_none, number_after}
 use Rattle.cc_node.proofs.node_core.Core.decide_delivery.Goals as goal
 
 pub returns-in_err-decide_delivery : goal.returns-in_err-decide_delivery

@@ -2,7 +2,7 @@ use Rattle.std.proofs.Common.{[], ◌∷◌, sym, ap, ◌∙◌}
 use Rattle.cc_messages.specs.declared.event.Event.TheVariants as event
 use Rattle.cc_messages.specs.Refusals.{first_of, decided}
 use Rattle.cc_node.specs.Refusals.{decides, decides_within, outbox_full}
-use Rattle.cc_node.proofs.Deciding.{of_entered, err_then, ok_then, spent_leave}
+use Rattle.cc_node.proofs.PartDecisions.{of_entered, err_then, ok_then, spent_leave}
 use Rattle.cc_node.proofs.node_core.Core.decide_leave.Goals as goal
 
 pub returns-in_err-decide_leave : goal.returns-in_err-decide_leave

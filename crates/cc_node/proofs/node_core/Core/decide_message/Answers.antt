@@ -6,7 +6,7 @@ use Rattle.cc_messages.specs.declared.refusal.Refusal.TheVariants as refusal
 use Rattle.cc_node.specs.Core.{lowest}
 use Rattle.cc_outbox.specs.Outbox.{post_limit}
 use Rattle.cc_node.specs.Refusals.{outbox_full}
-use Rattle.cc_node.proofs.Deciding.{first_holds, first_passes}
+use Rattle.cc_node.proofs.PartDecisions.{first_holds, first_passes}
 use Rattle.cc_node.proofs.node_core.Core.decide_message.Goals as goal
 use Rattle.cc_node.proofs.node_core.Core.decide_message.Goals.{After-has_no_room}
 

@@ -2,7 +2,7 @@ use Rattle.std.proofs.Common.{[], ◌∷◌, sym, ap, ◌∙◌}
 use Rattle.cc_messages.specs.declared.refusal.Refusal.TheVariants as refusal
 use Rattle.cc_messages.specs.Refusals.{first_of, decided}
 use Rattle.cc_node.specs.Refusals.{decides, decides_within}
-use Rattle.cc_node.proofs.Deciding.{of_retire, err_then, ok_then, first_holds, first_passes, spent_retire}
+use Rattle.cc_node.proofs.PartDecisions.{of_retire, err_then, ok_then, first_holds, first_passes, spent_retire}
 use Rattle.cc_node.proofs.node_core.Core.decide_retire.Goals as goal
 
 pub returns-in_err-decide_retire : goal.returns-in_err-decide_retire

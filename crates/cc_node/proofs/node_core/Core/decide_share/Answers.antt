@@ -4,7 +4,7 @@ use Rattle.cc_messages.specs.declared.event.Event.TheVariants as event
 use Rattle.cc_node.specs.Core.{Core}
 use Rattle.cc_node.specs.Refusals.{decides, decides_within, spent}
 use Rattle.cc_node.proofs.AloneLaws.{behind}
-use Rattle.cc_node.proofs.Deciding.{of_entered, of_share, err_then, ok_then, spent_share}
+use Rattle.cc_node.proofs.PartDecisions.{of_entered, of_share, err_then, ok_then, spent_share}
 use Rattle.cc_node.proofs.node_core.Core.decide_share.Goals as goal
 
 pub returns-in_err-decide_delivery : goal.returns-in_err-decide_delivery

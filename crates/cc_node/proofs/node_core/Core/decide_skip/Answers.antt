@@ -2,7 +2,7 @@ use Rattle.std.proofs.Common.{[], ◌∷◌, sym, ap, ◌∙◌, arith}
 use Rattle.cc_messages.specs.declared.refusal.Refusal.TheVariants as refusal
 use Rattle.cc_messages.specs.Refusals.{first_of, decided}
 use Rattle.cc_node.specs.Refusals.{decides, decides_within}
-use Rattle.cc_node.proofs.Deciding.{of_entered, of_range, err_there, err_then, ok_later, ok_then, first_holds, first_passes, skip_is_spent, skip_passes}
+use Rattle.cc_node.proofs.PartDecisions.{of_entered, of_range, err_there, err_then, ok_later, ok_then, first_holds, first_passes, skip_is_spent, skip_passes}
 use Rattle.cc_node.proofs.node_core.Core.decide_skip.Goals as goal
 
 pub returns-in_err-decide_delivery : goal.returns-in_err-decide_delivery

@@ -2,7 +2,7 @@ use Rattle.std.proofs.Common.{◌+◌, ℕ, sym, ap, ◌∙◌}
 use Rattle.cc_links.specs.Links.{heard_from, heard_of}
 use Rattle.cc_node.specs.Core.{Core, links_heard}
 use Rattle.cc_node.specs.contracts.node_core.Core.{the_view}
-use Rattle.cc_node.proofs.Hearing.{heard_first, heard_again}
+use Rattle.cc_node.proofs.HeardPeers.{heard_first, heard_again}
 use Rattle.cc_node.proofs.node_core.Core.heard_with.Goals as goal
 
 pub returns-then-heard-eq0 : goal.returns-then-heard-eq0

@@ -3,7 +3,7 @@ use Rattle.std.specs.Prelude.{is_some}
 use Rattle.cc_messages.specs.declared.event.Event.TheVariants as event
 use Rattle.cc_node.specs.Core.{Core, post}
 use Rattle.cc_node.specs.contracts.node_core.Core.{the_view}
-use Rattle.cc_node.proofs.Deciding.{makes_either, or_there}
+use Rattle.cc_node.proofs.PartDecisions.{makes_either, or_there}
 use Rattle.cc_node.proofs.node_core.Core.is_answered.Goals as goal
 
 pub returns-then-makes_post : goal.returns-then-makes_post

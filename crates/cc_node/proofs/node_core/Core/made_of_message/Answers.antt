@@ -4,11 +4,11 @@ use Rattle.std.specs.Option.{option_or}
 use Rattle.cc_messages.specs.declared.event.Event.TheVariants as event
 use Rattle.cc_messages.specs.declared.message.Message.{Message}
 use Rattle.cc_ops.specs.Ops.{replies_of}
-use Rattle.cc_ops.specs.declared.pending.Reply.{Reply}
+use Rattle.cc_ops.specs.declared.pending_operation.Reply.{Reply}
 use Rattle.cc_node.specs.Core.{Core, made, post}
 use Rattle.cc_node.specs.declared.made.Made.{Made}
 use Rattle.cc_node.specs.contracts.node_core.Core.{the_view}
-use Rattle.cc_node.proofs.Deciding.{echoed, served, post_either}
+use Rattle.cc_node.proofs.PartDecisions.{echoed, served, post_either}
 use Rattle.cc_node.proofs.Effects.{delivery_room}
 use Rattle.cc_node.proofs.node_core.Core.made_of_message.Goals as goal
 

@@ -8,7 +8,7 @@ use Rattle.cc_messages.specs.declared.event.Event.TheVariants as event
 use Rattle.cc_node.specs.Core.{Core, next, post, quorum}
 use Rattle.cc_node.specs.Refusals.{any_overruns}
 use Rattle.cc_node.specs.contracts.node_core.Core.{the_view}
-use Rattle.cc_node.proofs.Deciding.{counts, spent_delivery, or_passes}
+use Rattle.cc_node.proofs.PartDecisions.{counts, spent_delivery, or_passes}
 use Rattle.cc_node.proofs.node_core.Core.message_is_spent.Goals as goal
 use Rattle.cc_node.proofs.node_core.Core.message_is_spent.Goals.{After-is_spent}
 

@@ -9,7 +9,7 @@ use Rattle.cc_messages.specs.declared.message.Message.{Message}
 use Rattle.cc_messages.specs.declared.message.Message.TheVariants as message
 use Rattle.cc_node.specs.Core.{Core, quorum, asks_anew, churn_told, question_if, post_of_snapshot}
 use Rattle.cc_node.specs.contracts.node_core.Core.{the_view}
-use Rattle.cc_node.proofs.Deciding.{only_question}
+use Rattle.cc_node.proofs.PartDecisions.{only_question}
 use Rattle.cc_node.proofs.Effects.{delivery_room}
 use Rattle.cc_node.proofs.RefusalLaws.{takes_delivery}
 use Rattle.cc_node.proofs.ToldLaws.{snapshot_tag}

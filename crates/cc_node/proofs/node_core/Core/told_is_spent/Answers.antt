@@ -5,7 +5,7 @@ use Rattle.cc_views.specs.Limits.{counter_limit}
 use Rattle.cc_messages.specs.declared.event.Event.TheVariants as event
 use Rattle.cc_node.specs.Core.{tells, next}
 use Rattle.cc_node.specs.Refusals.{any_overruns}
-use Rattle.cc_node.proofs.Deciding.{spent_told, or_passes}
+use Rattle.cc_node.proofs.PartDecisions.{spent_told, or_passes}
 use Rattle.cc_node.proofs.node_core.Core.told_is_spent.Goals as goal
 use Rattle.cc_node.proofs.node_core.Core.told_is_spent.Goals.{After-anew_is_spent}
 

@@ -1,4 +1,4 @@
-use Rattle.cc_node.specs.Opening.{told}
+use Rattle.cc_node.specs.Openings.{told}
 use Rattle.cc_node.proofs.Openings.{initial_listed, initial_room}
 use Rattle.cc_node.proofs.opening.Opening.changes.Goals as goal
 

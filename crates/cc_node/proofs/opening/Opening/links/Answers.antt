@@ -2,7 +2,7 @@ use Rattle.std.proofs.Common.{◌≡◌, ◌≤◌, ◌∷◌, sym, subst, ap, �
 use Rattle.std.specs.FinMap as table
 use Rattle.std.proofs.lemmas.List.Elements.{Contains-append_left, Contains-append_right}
 use Rattle.cc_links.specs.Links.{Links, add, add_all}
-use Rattle.cc_node.specs.Opening.{told}
+use Rattle.cc_node.specs.Openings.{told}
 use Rattle.cc_node.proofs.Openings.{zero_listed, links_room, opening_links}
 use Rattle.cc_node.proofs.opening.Opening.links.Goals as goal
 use Rattle.cc_node.proofs.opening.Opening.links.Goals.{After-unwrap}

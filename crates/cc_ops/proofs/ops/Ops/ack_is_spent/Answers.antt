@@ -1,11 +1,11 @@
 use Rattle.std.proofs.Common.{◌≡◌, ◌+◌, ◌≤◌, Bool, List, true, false, nat_lt, not, refl, sym, ap, subst, ◌∙◌}
 use Rattle.std.specs.Prelude.{◌||◌}
 use Rattle.cc_views.specs.Limits.{counter_limit}
-use Rattle.cc_ops.specs.declared.pending.Asked.{Asked}
+use Rattle.cc_ops.specs.declared.pending_operation.Asked.{Asked}
 use Rattle.cc_ops.specs.Ops.{Ops, after_ack}
 use Rattle.cc_ops.specs.Refusals.{passes}
 use Rattle.cc_ops.specs.Rounds.{first_round}
-use Rattle.cc_ops.specs.Waiting.{writes_by}
+use Rattle.cc_ops.specs.WaitingAsks.{writes_by}
 use Rattle.cc_ops.proofs.Rooms.{ack_raises, passes_by, some_there, none_overruns}
 use Rattle.cc_ops.proofs.ops.Ops.ack_is_spent.Goals as goal
 

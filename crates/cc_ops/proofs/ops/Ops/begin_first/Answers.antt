@@ -2,14 +2,14 @@ use Rattle.std.proofs.Common.{◌≡◌, ◌≤◌, ◌∷◌, false, List, leng
 use Rattle.cc_views.specs.Limits.{set_limit}
 use Rattle.cc_views.specs.NatSets as set
 use Rattle.cc_views.specs.declared.value.Value.{Value}
-use Rattle.cc_ops.specs.declared.pending.Asked.{Asked}
+use Rattle.cc_ops.specs.declared.pending_operation.Asked.{Asked}
 use Rattle.cc_ops.specs.contracts.ops.Ops.{the_view}
 use Rattle.cc_ops.specs.Ops.{Ops, is_idle}
 use Rattle.cc_ops.specs.OwnLaws.{IsRound, first_is_round}
 use Rattle.cc_ops.specs.Rounds.{first_round, line_behind}
 use Rattle.cc_ops.specs.RoundLaws.{first_few}
 use Rattle.cc_ops.specs.Stages.{HasRoom}
-use Rattle.cc_ops.specs.Waiting.{written_by}
+use Rattle.cc_ops.specs.WaitingAsks.{written_by}
 use Rattle.cc_ops.proofs.Rooms.{may_wait, round_room, behind_room}
 use Rattle.cc_ops.proofs.ops.Ops.begin_first.Goals as goal
 

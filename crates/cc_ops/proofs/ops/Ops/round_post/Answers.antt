@@ -3,11 +3,11 @@ use Rattle.std.specs.FinMap.{len}
 use Rattle.cc_views.specs.Limits.{known_limit}
 use Rattle.cc_views.specs.Merge.{merge}
 use Rattle.cc_views.specs.Rows.{ViewMap, single}
-use Rattle.cc_ops.specs.declared.pending.Asked.{Asked}
+use Rattle.cc_ops.specs.declared.pending_operation.Asked.{Asked}
 use Rattle.cc_ops.specs.Commands.{is_writing}
 use Rattle.cc_ops.specs.Ops.{Ops}
 use Rattle.cc_ops.specs.Rounds.{first_round}
-use Rattle.cc_ops.specs.Waiting.{writes_by, written_by}
+use Rattle.cc_ops.specs.WaitingAsks.{writes_by, written_by}
 use Rattle.cc_ops.proofs.Rooms.{round_view}
 use Rattle.cc_ops.proofs.ops.Ops.round_post.Goals as goal
 

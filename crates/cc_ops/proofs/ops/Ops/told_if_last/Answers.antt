@@ -1,8 +1,8 @@
 use Rattle.std.proofs.Common.{◌≡◌, ◌∷◌, ◌++◌, [], Bool, true, List, length, map, take, ap, sym, ◌∙◌, arith}
 use Rattle.std.specs.Prelude.{if◌then◌else◌}
-use Rattle.cc_ops.specs.declared.pending.Asked.{Asked}
+use Rattle.cc_ops.specs.declared.pending_operation.Asked.{Asked}
 use Rattle.cc_ops.specs.Ops.{Ops, is_last, told}
-use Rattle.cc_ops.proofs.Telling.{told_more, told_all, told_count, front_few}
+use Rattle.cc_ops.proofs.ToldAnswers.{told_more, told_all, told_count, front_few}
 use Rattle.cc_ops.proofs.ops.Ops.told_if_last.Goals as goal
 
 pub loop-asked-init : goal.loop-asked-init

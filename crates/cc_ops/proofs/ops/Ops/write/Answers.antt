@@ -1,8 +1,8 @@
 use Rattle.std.proofs.Common.{◌∷◌, sym, subst}
 use Rattle.cc_ops.specs.Ops.{Ops}
 use Rattle.cc_ops.specs.Stages.{HasRoom}
-use Rattle.cc_ops.specs.Waiting.{written_by}
-use Rattle.cc_ops.specs.WaitingLaws.{first_room, own_room}
+use Rattle.cc_ops.specs.WaitingAsks.{written_by}
+use Rattle.cc_ops.specs.WaitingAskLaws.{first_room, own_room}
 use Rattle.cc_ops.proofs.ops.Ops.write.Goals as goal
 
 pub written-first-requires : goal.written-first-requires

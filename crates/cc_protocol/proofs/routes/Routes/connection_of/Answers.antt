@@ -1,4 +1,4 @@
-use Rattle.cc_protocol.proofs.RoutingLaws.{connection_open}
+use Rattle.cc_protocol.proofs.RouteLaws.{connection_open}
 use Rattle.cc_protocol.proofs.routes.Routes.connection_of.Goals as goal
 
 pub returns-clause-open : goal.returns-clause-open

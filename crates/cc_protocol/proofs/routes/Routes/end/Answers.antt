@@ -1,4 +1,4 @@
-use Rattle.cc_protocol.proofs.RoutingLaws.{kept_routes}
+use Rattle.cc_protocol.proofs.RouteLaws.{kept_routes}
 use Rattle.cc_protocol.proofs.routes.Routes.end.Goals as goal
 
 pub invariant_of-self : goal.invariant_of-self

@@ -1,5 +1,5 @@
 use Rattle.std.proofs.Common.{arith}
-use Rattle.cc_protocol.proofs.RoutingLaws.{connection_kept}
+use Rattle.cc_protocol.proofs.RouteLaws.{connection_kept}
 use Rattle.cc_protocol.proofs.routes.Routes.enter.Goals as goal
 
 pub invariant_of-self : goal.invariant_of-self

@@ -1,4 +1,4 @@
-use Rattle.cc_protocol.proofs.RoutingLaws.{closed_kept}
+use Rattle.cc_protocol.proofs.RouteLaws.{closed_kept}
 use Rattle.cc_protocol.proofs.routes.Routes.leave.Goals as goal
 
 pub invariant_of-self : goal.invariant_of-self

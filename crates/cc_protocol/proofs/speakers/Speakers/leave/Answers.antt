@@ -1,4 +1,4 @@
-use Rattle.cc_protocol.proofs.SpeakingLaws.{kept_speakers}
+use Rattle.cc_protocol.proofs.SpeakerLaws.{kept_speakers}
 use Rattle.cc_protocol.proofs.speakers.Speakers.leave.Goals as goal
 
 pub invariant_of-self : goal.invariant_of-self

@@ -1,5 +1,5 @@
 use Rattle.std.proofs.Common.{arith}
-use Rattle.cc_protocol.proofs.WishingLaws.{peer_wished}
+use Rattle.cc_protocol.proofs.WishLaws.{peer_wished}
 use Rattle.cc_protocol.proofs.wishes.Wishes.reack.Goals as goal
 
 pub invariant_of-self : goal.invariant_of-self

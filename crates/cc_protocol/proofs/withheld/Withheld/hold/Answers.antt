@@ -1,7 +1,7 @@
 use Rattle.std.proofs.Common.{refl, arith}
 use Rattle.std.proofs.lemmas.List.{append-nil}
-use Rattle.cc_protocol.specs.Withholding.{skipped}
-use Rattle.cc_protocol.proofs.WithholdingLaws.{skipped_length}
+use Rattle.cc_protocol.specs.Withheld.{skipped}
+use Rattle.cc_protocol.proofs.WithheldLaws.{skipped_length}
 use Rattle.cc_protocol.proofs.withheld.Withheld.hold.Goals as goal
 
 pub returns-then-last-first : goal.returns-then-last-first

@@ -1,5 +1,5 @@
 use Rattle.std.proofs.Common.{arith}
-use Rattle.cc_protocol.proofs.WithholdingLaws.{skipped_length}
+use Rattle.cc_protocol.proofs.WithheldLaws.{skipped_length}
 use Rattle.cc_protocol.proofs.withheld.Withheld.len.Goals as goal
 
 pub returns-in-Some-clause-len : goal.returns-in-Some-clause-len

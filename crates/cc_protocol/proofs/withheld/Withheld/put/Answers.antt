@@ -1,5 +1,5 @@
 use Rattle.std.proofs.Common.{sym, ◌∙◌}
-use Rattle.cc_protocol.proofs.WithholdingLaws.{held, waits}
+use Rattle.cc_protocol.proofs.WithheldLaws.{held, waits}
 use Rattle.cc_protocol.proofs.withheld.Withheld.put.Goals as goal
 
 pub returns-in-Some-clause-covers : goal.returns-in-Some-clause-covers

@@ -2,7 +2,7 @@ use Rattle.std.proofs.Common.{◌∷◌, [], ◌+◌, ◌∙◌, arith, ap}
 use Rattle.std.proofs.lemmas.Result.{err_from_is_err_and}
 use Rattle.std.proofs.lemmas.List.{length-append}
 use Rattle.cc_views.specs.Rows.{rows_of}
-use Rattle.cc_wire.specs.Reading.{row_at}
+use Rattle.cc_wire.specs.Readers.{row_at}
 use Rattle.cc_wire.proofs.Items.{goes_on, ends, is_done, still_below, below_next}
 use Rattle.cc_wire.proofs.Views.{len-rows_of}
 use Rattle.cc_wire.proofs.reader.Reader.rows.Goals as goal

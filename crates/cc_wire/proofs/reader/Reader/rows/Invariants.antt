@@ -1,7 +1,7 @@
 use Rattle.std.proofs.Common.{◌≡◌, ◌-◌, ◌<◌, ◌≤◌, length}
 use Rattle.std.specs.List.{AllByRecursion}
 use Rattle.cc_views.specs.Rows.{rows_of}
-use Rattle.cc_wire.specs.Reading.{rows_at}
+use Rattle.cc_wire.specs.Readers.{rows_at}
 use Rattle.cc_wire.proofs.Items.{with_front}
 use Rattle.cc_wire.proofs.reader.Reader.rows.Given as goal
 

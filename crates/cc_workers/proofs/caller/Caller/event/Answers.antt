@@ -1,7 +1,7 @@
 use Rattle.std.proofs.Common.{Option, sym, ◌∙◌, subst}
 use Rattle.cc_messages.specs.declared.event.Event.{Event}
-use Rattle.cc_workers.specs.Serving.{Takes, Guards}
-use Rattle.cc_workers.proofs.ServingLaws.{unasked, greets, taken, guarded}
+use Rattle.cc_workers.specs.WorkerSteps.{Takes, Guards}
+use Rattle.cc_workers.proofs.WorkerStepLaws.{unasked, greets, taken, guarded}
 use Rattle.cc_workers.proofs.caller.Caller.event.Goals as goal
 
 pub returns-in-None : goal.returns-in-None

@@ -1,5 +1,5 @@
 use Rattle.std.proofs.Common.{refl, ◌∙◌}
-use Rattle.cc_workers.proofs.ServingLaws.{none_due}
+use Rattle.cc_workers.proofs.WorkerStepLaws.{none_due}
 use Rattle.cc_workers.proofs.caller.CallerSource.told.Goals as goal
 
 pub returns-else-act : goal.returns-else-act

@@ -1,4 +1,0 @@
-pub mod ClusterNames
-pub mod HostNames
-pub mod LastParts
-pub mod NameBytes

@@ -1,5 +1,0 @@
-pub mod Limits
-pub mod Hellos
-pub mod Frames
-pub mod Held
-pub mod Streams

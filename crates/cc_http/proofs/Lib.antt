@@ -1,5 +1,0 @@
-mod EventLines
-mod Fields
-mod Heads
-mod Lawful
-mod Writes

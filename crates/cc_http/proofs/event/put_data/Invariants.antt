@@ -1,8 +1,0 @@
-use Rattle.std.proofs.Common.{take, Ok}
-use Rattle.std.specs.List.{flat_map}
-use Rattle.cc_http.specs.Writing.{Writes}
-use Rattle.cc_http.specs.Events.{data_byte}
-use Rattle.cc_http.proofs.event.put_data.Given as goal
-
-abbrev pub invariant-loop-byte : goal.invariant-loop-byte
-invariant-loop-byte l = Writes l.fn.out l.out (flat_map data_byte (take l.byte-index l.text)) (Ok tt)

@@ -1,6 +1,0 @@
-pub mod Answers
-pub mod Events
-pub mod Lines
-pub mod Pages
-pub mod Requests
-pub mod Writing

@@ -1,0 +1,11 @@
+pub mod BodyLengths
+pub mod HelloFormat
+pub mod FrameFormat
+pub mod FramedBodies
+pub mod Fronts
+pub mod Feeds
+pub mod StreamLaws
+pub mod ClusterNames
+pub mod HostNames
+pub mod LastParts
+pub mod NameBytes

@@ -1,0 +1,7 @@
+pub mod Limits
+pub mod Hellos
+pub mod Frames
+pub mod Held
+pub mod Streams
+pub mod Hosts
+pub mod Clusters

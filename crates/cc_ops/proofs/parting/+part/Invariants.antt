@@ -1,5 +1,0 @@
-use Rattle.std.proofs.Common.{length}
-use Rattle.cc_ops.proofs.parting.+part.Given as goal
-
-abbrev pub decreases-part : goal.decreases-part
-decreases-part l = length l.asks.now

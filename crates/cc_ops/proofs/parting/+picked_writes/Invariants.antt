@@ -1,5 +1,0 @@
-use Rattle.std.proofs.Common.{length}
-use Rattle.cc_ops.proofs.parting.+picked_writes.Given as goal
-
-abbrev pub decreases-picked_writes : goal.decreases-picked_writes
-decreases-picked_writes l = length l.asks.now

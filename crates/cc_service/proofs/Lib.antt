@@ -1,5 +1,0 @@
-mod Endings
-mod RoundLemmas
-mod ServiceLemmas
-mod StepLemmas
-mod Texts

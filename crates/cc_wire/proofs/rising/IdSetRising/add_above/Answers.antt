@@ -1,9 +1,0 @@
-use Rattle.std.proofs.Common.{arith}
-use Rattle.cc_views.specs.NatLists.{len-items}
-use Rattle.cc_wire.proofs.rising.IdSetRising.add_above.Goals as goal
-
-pub push-requires-clause-room : goal.push-requires-clause-room
-push-requires-clause-room c = omega (arith, len-items c.args.self.now, c.requires.room)
-
-pub push-requires-clause-above : goal.push-requires-clause-above
-push-requires-clause-above c = rw (rw c.unwrap.ensures at c.new.ensures.id) c.requires.above
