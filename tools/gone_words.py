@@ -8,11 +8,12 @@ import sys
 
 # Whole words, wherever they stand.
 GONE = {
-    "cc_sides": "cc_states", "cc_files": "cc_site", "cc_http": "cc_status", "cc_watch": "cc_status", "cc_texts": "cc_words",
-    "cc_orders": "cc_words", "cc_arguments": "cc_words", "cc_load": "cc_client", "cc_look": "cc_client",
+    "cc_sides": "cc_node_state", "cc_files": "cc_site", "cc_http": "cc_status", "cc_watch": "cc_status", "cc_texts": "cc_command_line",
+    "cc_orders": "cc_command_line", "cc_arguments": "cc_command_line", "cc_load": "cc_client", "cc_look": "cc_client",
     "cc_terminal": "cc_commands", "cc_play": "cc_commands", "cc_service": "cc_web", "cc_gateway": "cc_web",
-    "cc_frames": "cc_network", "cc_addresses": "cc_network", "cc_flags": "cc_network", "cc_flushing": "cc_threads",
-    "cc_life": "cc_intake", "cc_shared": "cc_channels or cc_threads", "cc_dialling": "cc_channels or cc_threads",
+    "cc_frames": "cc_connections", "cc_addresses": "cc_connections", "cc_flags": "cc_connections", "cc_flushing": "cc_threads",
+    "cc_life": "cc_intake", "cc_network": "cc_connections",
+    "cc_states": "cc_node_state", "cc_words": "cc_command_line", "cc_shared": "cc_channels or cc_threads", "cc_dialling": "cc_channels or cc_threads",
     "Standing": "PeerHealth, Readiness or Resend", "Standings": "HealthTable", "PeerStanding": "PeerRow",
     "Lasting": "SlowOperation", "Incoming": "ReceivedFrames", "Admitting": "Admit", "Dialling": "HelloExchange",
     "Meeting": "HeardNodes", "Rising": "AscendingSet",

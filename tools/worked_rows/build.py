@@ -12,7 +12,7 @@ crates = os.path.join(here, "..", "..", "crates")
 
 TYPES = """cc_views/value cc_views/row cc_changes/fraction cc_messages/command cc_messages/message cc_messages/event
     cc_messages/answer cc_messages/output cc_messages/refusal cc_wire/fault cc_ops/pending_operation cc_ops/stage
-    cc_outbox/kept_answer cc_site/site cc_node/made cc_node/opening cc_states/layout"""
+    cc_outbox/kept_answer cc_site/site cc_node/made cc_node/opening cc_node_state/layout"""
 
 SPECS = """cc_views: NatSets Rows Merge Limits Tables
     cc_changes: ChangeSets ChangeLaws Need
@@ -26,7 +26,7 @@ SPECS = """cc_views: NatSets Rows Merge Limits Tables
     cc_ops: Commands WaitingAsks Rounds Ops Stages Refusals
     cc_site: Sides Moments
     cc_node: Core Refusals Node OneAtATime Rounds Openings Writes Lawful
-    cc_states: Layouts States Sides Good
+    cc_node_state: Layouts States Sides Good
     cc_laws: Shown Orders Written Histories Lives Clusters Runs"""
 
 

@@ -2,7 +2,7 @@
 
 use crate::at_once::write_at_once;
 use crate::offer::offer;
-use cc_network::Flag;
+use cc_connections::Flag;
 use cc_ops::Asked;
 use cc_protocol::{Access, Admitted, LastAsks, Origin, Routes, Speakers, Spoken};
 use cc_views::{NoMemory, NodeId};

@@ -8,7 +8,7 @@ use crate::timed_input::{Patience, TimedInput};
 use crate::trouble::Trouble;
 use crate::waker::Waker;
 use crate::writer::millis;
-use cc_network::{Address, ConnectFault, Flag, Frame, connect};
+use cc_connections::{Address, ConnectFault, Flag, Frame, connect};
 use cc_protocol::{Greeter, Met, PEER_ANSWER_MS, ReceivedFrames, WRITE_BYTES, met_by};
 use cc_views::NodeId;
 use log::Log;

@@ -1,9 +1,9 @@
 //! Frames as bytes of their own.
 
 ghost use Rattle.std.specs.Prelude.{◌≡◌, IfOk};
-ghost use Rattle.cc_network.specs.Frames.{frame_spelling};
+ghost use Rattle.cc_connections.specs.Frames.{frame_spelling};
 
-use cc_network::{Frame, encode_frame};
+use cc_connections::{Frame, encode_frame};
 use cc_views::NoMemory;
 use std::alloc::Global;
 

@@ -1,6 +1,6 @@
 //! How a node greets its peers, and what comes of it.
 
-use cc_network::Flag;
+use cc_connections::Flag;
 use cc_protocol::Greeter;
 use cc_views::NodeId;
 use std::fmt;

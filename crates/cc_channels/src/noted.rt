@@ -2,7 +2,7 @@
 
 use crate::trouble::Trouble;
 use crate::writer::millis;
-use cc_network::Address;
+use cc_connections::Address;
 use cc_views::NodeId;
 use log::{Log, info, warn};
 use std::net::TcpStream;

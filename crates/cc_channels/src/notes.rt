@@ -1,8 +1,8 @@
 //! What a running node notes of its peers on standard error.
 
 use crate::trouble::words_of;
+use cc_connections::{Address, Reason};
 use cc_messages::Share;
-use cc_network::{Address, Reason};
 use cc_protocol::{AskName, SlowOperation};
 use cc_site::{Side, file_name};
 use cc_views::NodeId;

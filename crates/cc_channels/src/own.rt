@@ -3,8 +3,8 @@
 ghost use Rattle.std.specs.Prelude.{◌≤◌};
 
 use crate::offer::offer;
+use cc_connections::Flag;
 use cc_messages::{Event, PostRange};
-use cc_network::Flag;
 use cc_protocol::{Due, Withheld};
 use crossbeam_channel::{Receiver, Sender, bounded};
 use std::alloc::{AllocError, Global};

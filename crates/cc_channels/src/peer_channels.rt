@@ -1,7 +1,7 @@
 //! The channels to all peers, of which more come while others are in use.
 
 use crate::peer_channel::{FarEnd, PeerChannel, channel_to};
-use cc_network::Peer;
+use cc_connections::Peer;
 use cc_views::NodeId;
 use std::alloc::{AllocError, Global};
 use std::net::IpAddr;

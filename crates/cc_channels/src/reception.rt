@@ -1,6 +1,6 @@
 //! Which nodes are taken that greet.
 
-use cc_network::{Hello, Reason};
+use cc_connections::{Hello, Reason};
 use cc_protocol::{Greeted, Greetings, Recipient};
 use cc_views::{NoMemory, NodeId};
 use std::alloc::Global;

@@ -1,6 +1,6 @@
 //! Why a node and a peer don't take each other.
 
-use cc_network::Reason;
+use cc_connections::Reason;
 
 /// Why a peer doesn't take the node that greets it.
 #[derive(Clone, Copy, PartialEq, Eq)]

@@ -2,7 +2,7 @@
 
 use crate::notes::{Notice, give_notice};
 use crate::shared::Shared;
-use cc_network::{Address, Hello, Reason};
+use cc_connections::{Address, Hello, Reason};
 use cc_protocol::{Greeted, is_old_copy};
 use cc_views::NodeId;
 use log::Log;

@@ -1,6 +1,6 @@
 //! How workers wake the flusher.
 
-use cc_network::Flag;
+use cc_connections::Flag;
 use crossbeam_utils::sync::Unparker;
 use std::sync::atomic::{AtomicU64, Ordering};
 

@@ -18,7 +18,7 @@ use Rattle.cc_site.specs.Moments.{Contents, Within, SeenFrom}
 use Rattle.cc_site.specs.Gates.{shut_like}
 use Rattle.cc_site.specs.Runs.{EachMoment, OnlyNow, CountsNow, Passes, started, goes_on, joined, weaker, now_has}
 use Rattle.cc_site.specs.Crashes.{after_crash_of}
-use Rattle.cc_states.specs.Good.{AllMade, RestsAt}
+use Rattle.cc_node_state.specs.Good.{AllMade, RestsAt}
 use Rattle.cc_checkpoint.specs.Checkpoints.{IsShutNow, Behind, StaysBehind, RestsOff, KeepsOff}
 
 -- what lies within a bound that has the gates of before

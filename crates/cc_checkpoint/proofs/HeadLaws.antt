@@ -9,9 +9,9 @@ use Rattle.std.proofs.lemmas.Nat.{from_be_bytes-to_be_bytes_4, be_bytes_4, be_by
 use Rattle.std.proofs.lemmas.List.{drop_more, drop-drop, length-take-le, take_at}
 use Rattle.cc_wire.proofs.Spelled.{IsBytes, IsBytes-drop, IsBytes-take}
 use Rattle.cc_node.specs.Node.{Node}
-use Rattle.cc_states.specs.Layouts.{IsVersion, layout_of}
-use Rattle.cc_states.specs.Sides.{OPEN, IsArmed, generation_of, SpellsHead}
-use Rattle.cc_states.specs.States.{SpellsNode}
+use Rattle.cc_node_state.specs.Layouts.{IsVersion, layout_of}
+use Rattle.cc_node_state.specs.Sides.{OPEN, IsArmed, generation_of, SpellsHead}
+use Rattle.cc_node_state.specs.States.{SpellsNode}
 use Rattle.cc_checkpoint.specs.Heads.{size_of, state_of, HeadAt}
 
 -- a front of four or eight bytes is a number

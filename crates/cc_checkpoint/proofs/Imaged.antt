@@ -5,13 +5,13 @@ use Rattle.std.specs.Int.{w32, w64, to_be_bytes}
 use Rattle.cc_site.specs.Sides.{SideState, overwritten, written, settled, durable}
 use Rattle.cc_site.specs.Gates.{IsShut}
 use Rattle.cc_node.specs.Node.{Node}
-use Rattle.cc_states.specs.declared.layout.Layout.{Layout}
-use Rattle.cc_states.specs.Layouts.{version_of, layout_back}
-use Rattle.cc_states.specs.Sides.{OPEN}
-use Rattle.cc_states.specs.States.{SpellsNode, layout_of_node, node_spelling}
+use Rattle.cc_node_state.specs.declared.layout.Layout.{Layout}
+use Rattle.cc_node_state.specs.Layouts.{version_of, layout_back}
+use Rattle.cc_node_state.specs.Sides.{OPEN}
+use Rattle.cc_node_state.specs.States.{SpellsNode, layout_of_node, node_spelling}
 use Rattle.cc_checkpoint.specs.Images.{SpellsImage, head_spelling, image_spelling}
 use Rattle.cc_checkpoint.specs.Checkpoints.{image_of, IsFilled}
-use Rattle.cc_states.proofs.StateLengths.{length-node}
+use Rattle.cc_node_state.proofs.StateLengths.{length-node}
 use Rattle.cc_checkpoint.proofs.BehindRuns.{at_end}
 
 pub image_spelled : (version generation : ℕ) (state : List ℕ) (node : Node)

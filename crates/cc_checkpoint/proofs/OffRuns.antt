@@ -21,10 +21,10 @@ use Rattle.cc_site.specs.Reads.{OnlyReads, read_each}
 use Rattle.cc_site.specs.Runs.{EachMoment, OnlyNow, CountsNow, joined, weaker, now_has}
 use Rattle.cc_site.specs.Crashes.{after_crash_of}
 use Rattle.cc_node.specs.Node.{Node, after}
-use Rattle.cc_states.specs.Sides.{OPEN, IsArmed, Yields}
-use Rattle.cc_states.specs.Fronts.{generation_held}
-use Rattle.cc_states.specs.Good.{AllMade, IsGoodAt, RestsAt}
-use Rattle.cc_states.specs.GoodLaws.{good_other_way, whole_good}
+use Rattle.cc_node_state.specs.Sides.{OPEN, IsArmed, Yields}
+use Rattle.cc_node_state.specs.Fronts.{generation_held}
+use Rattle.cc_node_state.specs.Good.{AllMade, IsGoodAt, RestsAt}
+use Rattle.cc_node_state.specs.GoodLaws.{good_other_way, whole_good}
 use Rattle.cc_checkpoint.specs.Images.{image_holds}
 use Rattle.cc_checkpoint.specs.Checkpoints.{image_of, RestsOff, RestsOn, KeepsOff, ArmsFor, IsGoodForAll}
 

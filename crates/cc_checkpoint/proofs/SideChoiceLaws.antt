@@ -9,7 +9,7 @@ use Rattle.cc_site.specs.declared.site.Side.{Side}
 use Rattle.cc_site.specs.declared.site.Side.TheVariants.{A, B}
 use Rattle.cc_site.specs.Sides.{other}
 use Rattle.cc_site.specs.Moments.{Contents}
-use Rattle.cc_states.specs.Sides.{OPEN, IsArmed, generation_of, Yields}
+use Rattle.cc_node_state.specs.Sides.{OPEN, IsArmed, generation_of, Yields}
 use Rattle.cc_checkpoint.specs.declared.side_choice.InUse.{InUse}
 use Rattle.cc_checkpoint.specs.declared.open_fault.OpenFault.{OpenFault}
 use Rattle.cc_checkpoint.specs.declared.open_fault.OpenFault.TheVariants.{Damaged}

@@ -24,15 +24,15 @@ use Rattle.cc_site.specs.Moments.{Rose}
 use Rattle.cc_site.specs.ToldFaults.{Looks, LooksAt, Tells}
 use Rattle.cc_node.specs.Lawful.{IsLawfulNode}
 use Rattle.cc_node.specs.Node.{Node}
-use Rattle.cc_states.specs.Layouts.{IsVersion, layout_of}
-use Rattle.cc_states.specs.declared.layout.Layout.{Layout}
-use Rattle.cc_states.specs.States.{State, state_at, node_of, state_of as state_of_node}
+use Rattle.cc_node_state.specs.Layouts.{IsVersion, layout_of}
+use Rattle.cc_node_state.specs.declared.layout.Layout.{Layout}
+use Rattle.cc_node_state.specs.States.{State, state_at, node_of, state_of as state_of_node}
 use Rattle.cc_checkpoint.specs.declared.read_fault.ReadFault.{ReadFault}
 use Rattle.cc_checkpoint.specs.declared.read_fault.ReadFault.TheVariants.{Device, NoMemory, NoState}
 use Rattle.cc_checkpoint.specs.Faults.{FaultRose}
 use Rattle.cc_checkpoint.specs.Heads.{size_of, state_of, fault_of, HasVersion, HasState, HeadFails, NodeFound}
 use Rattle.cc_checkpoint.specs.Windows.{IsMissing, Misses, FaultRead, CountsRead}
-use Rattle.cc_states.proofs.Decoded.{decodes, state_is_read, not_unlawful}
+use Rattle.cc_node_state.proofs.Decoded.{decodes, state_is_read, not_unlawful}
 
 pub ahead_all : (held bytes : List ℕ) (end size : ℕ) → held ≡ [] → end ≡ 14 + size → held ++ take (end - 14) (drop 14 bytes) ≡ take size (drop 14 bytes)
 ahead_all held bytes end size none is =

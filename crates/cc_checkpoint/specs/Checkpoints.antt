@@ -18,10 +18,10 @@ use Rattle.cc_site.specs.Gates.{IsShut}
 use Rattle.cc_site.specs.Runs.{EachMoment}
 use Rattle.cc_site.specs.Crashes.{AfterCrash}
 use Rattle.cc_node.specs.Node.{Node, after}
-use Rattle.cc_states.specs.Layouts.{version_of}
-use Rattle.cc_states.specs.States.{layout_of_node, node_spelling}
-use Rattle.cc_states.specs.Sides.{OPEN}
-use Rattle.cc_states.specs.Good.{IsGoodAt, RestsAt}
+use Rattle.cc_node_state.specs.Layouts.{version_of}
+use Rattle.cc_node_state.specs.States.{layout_of_node, node_spelling}
+use Rattle.cc_node_state.specs.Sides.{OPEN}
+use Rattle.cc_node_state.specs.Good.{IsGoodAt, RestsAt}
 use Rattle.cc_checkpoint.specs.Images.{image_spelling, SpellsImage}
 
 abbrev pub IsShutNow : SideState → Type 0

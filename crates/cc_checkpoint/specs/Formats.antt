@@ -7,7 +7,7 @@ use Rattle.std.proofs.Common.{arith}
 use Rattle.cc_wire.specs.Readers.{Reading}
 use Rattle.cc_wire.proofs.Spelled.{Spelled}
 use Rattle.cc_links.specs.Links.{Link}
-use Rattle.cc_states.specs.States.{entering_spelling, link_spelling}
+use Rattle.cc_node_state.specs.States.{entering_spelling, link_spelling}
 
 pub record Format (T : Type 0) : Type 1 where
   pub Seen : Type 0

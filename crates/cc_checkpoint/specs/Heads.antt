@@ -8,9 +8,9 @@ use Rattle.std.specs.Prelude.{◌≡◌, ◌⊎◌, ℕ, ◌+◌, ◌<◌, ◌�
 use Rattle.std.specs.Int.{from_be_bytes, w32}
 use Rattle.cc_site.specs.declared.site.Side.{Side}
 use Rattle.cc_node.specs.Node.{Node}
-use Rattle.cc_states.specs.declared.layout.Layout.{Layout}
-use Rattle.cc_states.specs.Layouts.{IsVersion, layout_of}
-use Rattle.cc_states.specs.States.{SpellsNode}
+use Rattle.cc_node_state.specs.declared.layout.Layout.{Layout}
+use Rattle.cc_node_state.specs.Layouts.{IsVersion, layout_of}
+use Rattle.cc_node_state.specs.States.{SpellsNode}
 use Rattle.cc_checkpoint.specs.declared.read_fault.ReadFault.{ReadFault}
 use Rattle.cc_checkpoint.specs.declared.read_fault.ReadFault.TheVariants as read_faults
 use Rattle.cc_checkpoint.specs.declared.open_fault.OpenFault.{OpenFault}

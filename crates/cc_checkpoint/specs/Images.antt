@@ -7,9 +7,9 @@ use Rattle.std.proofs.Common.{refl, sym, ap, arith, length-append}
 use Rattle.std.proofs.lemmas.List.{append-nil}
 use Rattle.std.specs.Int.{to_be_bytes, w32, w64}
 use Rattle.cc_node.specs.Node.{Node}
-use Rattle.cc_states.specs.Layouts.{version_of, version_known}
-use Rattle.cc_states.specs.Sides.{OPEN, SpellsHead, Holds}
-use Rattle.cc_states.specs.States.{layout_of_node}
+use Rattle.cc_node_state.specs.Layouts.{version_of, version_known}
+use Rattle.cc_node_state.specs.Sides.{OPEN, SpellsHead, Holds}
+use Rattle.cc_node_state.specs.States.{layout_of_node}
 
 unfoldable pub head_spelling : ℕ → ℕ → List ℕ → List ℕ
 head_spelling version generation state = to_be_bytes w64 generation ++ version ∷ (to_be_bytes w32 (length state) ++ state)

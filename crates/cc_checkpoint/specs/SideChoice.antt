@@ -6,7 +6,7 @@
 use Rattle.std.specs.Prelude.{◌≡◌, ℕ, List, length, slice_index_or, nat_lt, ◌||◌, ◌==◌, if◌then◌else◌, Option, Some, None, Result, Ok, Err}
 use Rattle.cc_site.specs.declared.site.Side.{Side}
 use Rattle.cc_site.specs.declared.site.Side.TheVariants.{A, B}
-use Rattle.cc_states.specs.Sides.{OPEN, generation_of}
+use Rattle.cc_node_state.specs.Sides.{OPEN, generation_of}
 use Rattle.cc_checkpoint.specs.declared.side_choice.InUse.{InUse}
 use Rattle.cc_checkpoint.specs.declared.side_choice.Peeked.{Peeked}
 use Rattle.cc_checkpoint.specs.declared.side_choice.Peeked.TheVariants.{Closed, Armed, Short}

@@ -10,8 +10,8 @@ ghost use Rattle.cc_site.specs.Gates.{IsShut};
 ghost use Rattle.cc_site.specs.Runs.{EachMoment};
 ghost use Rattle.cc_site.specs.ToldFaults.{CountsCalls};
 ghost use Rattle.cc_node.specs.Node.{Node as NodeState, after};
-ghost use Rattle.cc_states.specs.States.{SpellsNode, layout_of_node, node_spelling};
-ghost use Rattle.cc_states.specs.Sides.{IsArmed, OPEN};
+ghost use Rattle.cc_node_state.specs.States.{SpellsNode, layout_of_node, node_spelling};
+ghost use Rattle.cc_node_state.specs.Sides.{IsArmed, OPEN};
 ghost use Rattle.cc_checkpoint.specs.Stops.{Fills, Retires, HasClosed, ClosingStops, IsPastGate, ImageStops, FillStops, RetireStops};
 ghost use Rattle.cc_checkpoint.specs.Checkpoints.{IsShutNow, IsSurelyShut, IsFilled, StaysBehind, KeepsOff, RestsOn, ArmsFor, IsGoodForAll, image_of};
 
@@ -19,10 +19,10 @@ use crate::image::version_for;
 use crate::piece::Piece;
 use crate::pieces::{Pieces, state_length};
 use cc_node::Node;
+use cc_node_state::node_is_spellable;
 use cc_site::{
     CLOSED_GATE, DeviceFault, OPEN_GATE, Side, Site, cut_durably, read_into, write_durably,
 };
-use cc_states::node_is_spellable;
 
 // Where the state begins: behind the gate, the generation, the version and the state's length.
 const STATE_PLACE: u64 = 14;

@@ -10,24 +10,24 @@ ghost use Rattle.cc_wire.proofs.MessageFormat.{message_spelled};
 ghost use Rattle.cc_links.specs.Rows as links;
 ghost use Rattle.cc_sessions.specs.Rows as sessions;
 ghost use Rattle.cc_outbox.specs.Rows as answers;
-ghost use Rattle.cc_states.specs.States.{phase_spelling, round_spelling};
-ghost use Rattle.cc_states.specs.Fields.{membership_in, own_in, entering_in, round_in};
-ghost use Rattle.cc_states.specs.Parts.{piece_limit};
-ghost use Rattle.cc_states.proofs.StateFormat.{membership_spelled, own_spelled, entering_spelled, round_spelled, link_spelled, sessions_spelled};
-ghost use Rattle.cc_states.proofs.StateFormat.{kept_answer_spelled};
-ghost use Rattle.cc_states.proofs.StateLengths.{length-membership, length-own, length-round, length-sessions, length-kept_answer};
+ghost use Rattle.cc_node_state.specs.States.{phase_spelling, round_spelling};
+ghost use Rattle.cc_node_state.specs.Fields.{membership_in, own_in, entering_in, round_in};
+ghost use Rattle.cc_node_state.specs.Parts.{piece_limit};
+ghost use Rattle.cc_node_state.proofs.StateFormat.{membership_spelled, own_spelled, entering_spelled, round_spelled, link_spelled, sessions_spelled};
+ghost use Rattle.cc_node_state.proofs.StateFormat.{kept_answer_spelled};
+ghost use Rattle.cc_node_state.proofs.StateLengths.{length-membership, length-own, length-round, length-sessions, length-kept_answer};
 ghost use Rattle.cc_checkpoint.specs.Formats.{Format, spelled_as, entering_small, number_small, count_small, link_small};
 
 use cc_links::LinkRow;
 use cc_messages::Message;
-use cc_ops::Stage;
-use cc_outbox::KeptAnswer;
-use cc_sessions::SessionRow;
-use cc_states::{
+use cc_node_state::{
     COUNT_LEN, Entering, FRACTION_LEN, ID_LEN, LINK_LEN, Layout, Membership, NUMBER_LEN, Own,
     Round, SESSION_LEN, line_len, others_len, pending_len, read_entering, read_kept_answer,
     read_link, read_membership, read_own, read_round, read_session_table,
 };
+use cc_ops::Stage;
+use cc_outbox::KeptAnswer;
+use cc_sessions::SessionRow;
 use cc_views::View;
 use cc_wire::{Reader, WireFault, answer_len, changes_len, message_len, value_len, view_len};
 use std::alloc::Global;

@@ -1,7 +1,7 @@
 //! The state of an armed side.
 
 ghost use Rattle.std.specs.Prelude.{◌≡◌, ◌≤◌, ◌+◌, length, slice_index, take, drop, IfOk, MatchResult};
-ghost use Rattle.cc_states.specs.Layouts.{layout_of};
+ghost use Rattle.cc_node_state.specs.Layouts.{layout_of};
 ghost use Rattle.cc_site.specs.Reads.{OnlyReads};
 ghost use Rattle.cc_site.specs.ToldFaults.{LooksAt};
 ghost use Rattle.cc_checkpoint.specs.Faults.{CountsDevice};
@@ -14,8 +14,8 @@ use crate::read_fault::ReadFault;
 use crate::side_reader::read_off;
 use crate::unread::Unread;
 use cc_node::Node;
+use cc_node_state::{Layout, restore};
 use cc_site::{Side, Site, length_of, read_into};
-use cc_states::{Layout, restore};
 use std::alloc::Global;
 
 // Where the state of a side begins.

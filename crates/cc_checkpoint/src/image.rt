@@ -1,13 +1,13 @@
 //! What stands behind the gate of a side that holds a state and no record.
 
 ghost use Rattle.std.specs.Prelude.{◌≡◌, ◌≤◌, ◌<◌, ◌^◌, ◌++◌, ◌∷◌, [], IfOk, OnOk, length};
-ghost use Rattle.cc_states.specs.Layouts.{version_of};
-ghost use Rattle.cc_states.specs.States.{SpellsNode, layout_of_node};
+ghost use Rattle.cc_node_state.specs.Layouts.{version_of};
+ghost use Rattle.cc_node_state.specs.States.{SpellsNode, layout_of_node};
 ghost use Rattle.cc_checkpoint.specs.Images.{image_spelling, SpellsImage};
 
 use cc_node::Node;
+use cc_node_state::{Layout, encode_state};
 use cc_site::CLOSED_GATE;
-use cc_states::{Layout, encode_state};
 use cc_views::NoMemory;
 use cc_wire::{put_u8, put_u32, put_u64};
 use std::alloc::{AllocError, Global};

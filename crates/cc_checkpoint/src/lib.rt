@@ -14,7 +14,7 @@ mod side_reader;
 mod unread;
 mod window;
 
-pub use cc_states::{
+pub use cc_node_state::{
     StateFault, decode_state, each_node_has_one_layout, encode_state, largest_node,
     lawful_states_are_of_nodes, one_spelling_of_nodes, one_spelling_of_states,
 };

@@ -7,12 +7,12 @@ ghost use Rattle.cc_wire.specs.Writers.{Writes};
 ghost use Rattle.cc_site.specs.declared.site.Call.TheVariants.{Read};
 ghost use Rattle.cc_site.specs.Moments.{CountsFault};
 ghost use Rattle.cc_site.specs.Reads.{OnlyReads};
-ghost use Rattle.cc_states.specs.Parts.{parts_of, joined, piece_limit};
+ghost use Rattle.cc_node_state.specs.Parts.{parts_of, joined, piece_limit};
 ghost use Rattle.cc_checkpoint.specs.Windows.{AreBytes};
 
 use cc_node::Node;
+use cc_node_state::{part_count, part_len, put_part};
 use cc_site::{DeviceFault, Side, Site, read_into};
-use cc_states::{part_count, part_len, put_part};
 use cc_views::NoMemory;
 use cc_wire::{Reader, put_u8, put_u32, put_u64};
 use std::alloc::{AllocError, Global};
@@ -30,7 +30,7 @@ pub struct Piece {
 impl Model for Piece {
     ghost use Rattle.std.specs.Prelude.{ℕ, List, ◌≤◌, length, drop};
     ghost use Rattle.std.specs.Vec.{vec_capacity};
-    ghost use Rattle.cc_states.specs.Parts.{piece_limit};
+    ghost use Rattle.cc_node_state.specs.Parts.{piece_limit};
 
     ghost Value = { List ℕ };
 

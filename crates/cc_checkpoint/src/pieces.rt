@@ -1,12 +1,12 @@
 //! A node's state in pieces, so that it is written through one buffer, however long it is.
 
 ghost use Rattle.std.specs.Prelude.{ℕ, List, ◌≡◌, ◌≤◌, ◌<◌, ◌^◌, ◌++◌, [], length};
-ghost use Rattle.cc_states.specs.States.{node_spelling};
-ghost use Rattle.cc_states.specs.Parts.{parts_of, joined, piece_limit};
+ghost use Rattle.cc_node_state.specs.States.{node_spelling};
+ghost use Rattle.cc_node_state.specs.Parts.{parts_of, joined, piece_limit};
 
 use crate::piece::Piece;
 use cc_node::Node;
-use cc_states::{part_count, part_len};
+use cc_node_state::{part_count, part_len};
 use std::marker::Model;
 
 /// How many bytes the spelling of a node's state has: so few that four bytes tell it.
@@ -31,7 +31,7 @@ pub struct Pieces<'a> {
 
 impl<'a> Model for Pieces<'a> {
     ghost use Rattle.std.specs.Prelude.{ℕ, List, drop, length, ◌≤◌};
-    ghost use Rattle.cc_states.specs.Parts.{parts_of};
+    ghost use Rattle.cc_node_state.specs.Parts.{parts_of};
 
     ghost Value = { List (List ℕ) };
 

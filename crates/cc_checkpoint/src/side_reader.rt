@@ -2,10 +2,10 @@
 
 ghost use Rattle.std.specs.Prelude.{◌≡◌, IfOk};
 ghost use Rattle.cc_wire.specs.Readers.{whole};
-ghost use Rattle.cc_states.specs.States.{state_at};
-ghost use Rattle.cc_states.specs.Fields.{state_in, AreRead};
-ghost use Rattle.cc_states.specs.Sources.{failure_of};
-ghost use Rattle.cc_states.specs.Sources as sources;
+ghost use Rattle.cc_node_state.specs.States.{state_at};
+ghost use Rattle.cc_node_state.specs.Fields.{state_in, AreRead};
+ghost use Rattle.cc_node_state.specs.Sources.{failure_of};
+ghost use Rattle.cc_node_state.specs.Sources as sources;
 ghost use Rattle.cc_checkpoint.specs.Windows.{Finds, Goes, LiesOn, Runs, ahead, at, runs_start, runs_again};
 
 use crate::elements::{
@@ -18,12 +18,12 @@ use crate::unread::Unread;
 use crate::window::read_element;
 use cc_links::LinkRow;
 use cc_messages::Message;
+use cc_node_state::{
+    Entering, Fields, Layout, Membership, Own, Round, Source, SourceFault, read_whole,
+};
 use cc_outbox::KeptAnswer;
 use cc_sessions::SessionRow;
 use cc_site::{DeviceFault, Site};
-use cc_states::{
-    Entering, Fields, Layout, Membership, Own, Round, Source, SourceFault, read_whole,
-};
 use cc_views::View;
 use cc_wire::WireFault;
 use std::alloc::Global;

@@ -2,7 +2,7 @@
 //! or the state ends.
 
 ghost use Rattle.std.specs.Prelude.{◌≡◌, ◌⊎◌, ◌≤◌, length, IfOk, OnOk, IfErr};
-ghost use Rattle.cc_states.specs.Parts.{piece_limit};
+ghost use Rattle.cc_node_state.specs.Parts.{piece_limit};
 ghost use Rattle.cc_checkpoint.specs.Windows.{AreBytes, IsOfDevice, LiesOn, ReadsOff, Runs, ahead, at, seen_by};
 
 use crate::elements::Element;

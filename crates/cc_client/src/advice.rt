@@ -1,6 +1,6 @@
 //! What is to be done where something wasn't.
 
-use cc_network::Address;
+use cc_connections::Address;
 use std::fmt;
 
 /// What is to be done where a client's request, or the operator's, wasn't done.

@@ -1,6 +1,6 @@
 //! Why a node's status isn't known.
 
-use cc_network::Address;
+use cc_connections::Address;
 use std::alloc::AllocError;
 use std::error::Error;
 use std::fmt;

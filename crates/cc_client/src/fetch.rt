@@ -3,7 +3,7 @@
 ghost use Rattle.std.specs.Prelude.{◌≤◌, length, IfOk};
 
 use crate::fault::LookFault;
-use cc_network::{Address, ConnectFault};
+use cc_connections::{Address, ConnectFault};
 use std::alloc::Global;
 use std::io;
 use std::io::{ErrorKind, Read, Write};
@@ -45,7 +45,7 @@ pub fn fetch<R: Net<Stream = TcpStream> + Clock>(
 
 fn connect<R: Net<Stream = TcpStream>>(rt: &R, address: &Address) -> Result<TcpStream, LookFault> {
     let patience = Duration::from_millis(CONNECT_MS);
-    match cc_network::connect(rt, address, patience) {
+    match cc_connections::connect(rt, address, patience) {
         Ok(stream) => Ok(stream),
         Err(ConnectFault::Unknown) => Err(LookFault::Unknown(*address)),
         Err(ConnectFault::Refused) => Err(LookFault::Closed(*address)),

@@ -2,7 +2,7 @@
 
 use crate::deadline::Deadline;
 use crate::silence::Silence;
-use cc_network::{Address, ConnectFault, Frame, encode_frame};
+use cc_connections::{Address, ConnectFault, Frame, encode_frame};
 use cc_protocol::ReceivedFrames;
 use std::alloc::Global;
 use std::io::Write;
@@ -37,7 +37,7 @@ pub fn connect<R: Net<Stream = TcpStream> + Clock>(
     let Some(patience) = within(rt, deadline, CONNECT_MS) else {
         return Err(Silence::Mute(*address));
     };
-    match cc_network::connect(rt, address, patience) {
+    match cc_connections::connect(rt, address, patience) {
         Ok(stream) => {
             let _ = stream.set_nodelay(true);
             Ok(stream)

@@ -4,13 +4,13 @@ use crate::advice::Advice;
 use crate::deadline::Deadline;
 use crate::frame_sender::{connect, receive, send};
 use crate::silence::{Silence, Told};
+use cc_command_line::{LeaveOrder, RetireOrder, ShareOrder};
+use cc_connections::{Address, Frame};
 use cc_messages::Refusal;
-use cc_network::{Address, Frame};
 use cc_protocol::{
     Lefts, OPERATOR_ANSWER_SECONDS, Objection, Outcome, ReceivedFrames, Retirement, outcome_of,
     probe_frame, share_outcome_of,
 };
-use cc_words::{LeaveOrder, RetireOrder, ShareOrder};
 use std::alloc::Global;
 use std::io;
 use std::io::Write;

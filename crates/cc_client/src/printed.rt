@@ -1,8 +1,8 @@
 //! What a client prints.
 
 use crate::json::{json_of_answer, json_of_refusal};
+use cc_command_line::{AnswerForm, HarmlessJson, PrintedAnswer};
 use cc_messages::{Answer, Refusal};
-use cc_words::{AnswerForm, HarmlessJson, PrintedAnswer};
 use std::alloc::Global;
 use std::io;
 use std::io::Write;

@@ -2,8 +2,8 @@
 
 use crate::latencies::Latencies;
 use crate::tally::Tally;
+use cc_command_line::LoadOrder;
 use cc_messages::Refusal;
-use cc_words::LoadOrder;
 use serde::{Described, Serialize, Serializer};
 use std::alloc::{AllocError, Global};
 use std::fmt;

@@ -1,7 +1,7 @@
 //! Why no answer came.
 
 use crate::advice::Advice;
-use cc_network::Address;
+use cc_connections::Address;
 use std::error::Error;
 use std::fmt;
 

@@ -3,7 +3,7 @@
 use crate::status::{
     CountPart, PeerPart, RoundPart, RowPart, RowText, SkipPart, Status, number_of,
 };
-use cc_words::{Harmless, Quoted};
+use cc_command_line::{Harmless, Quoted};
 use serde_json::{Map, Value};
 use std::fmt;
 

@@ -8,7 +8,7 @@ use crate::opening_fault::BadOpening;
 use crate::statuses::print_word_fault;
 use crate::trouble::{Trouble, Wrong};
 use crate::warning::Warning;
-use cc_words::FormatWords;
+use cc_command_line::FormatWords;
 use std::alloc::AllocError;
 use std::fs::{File, Files};
 use std::process::ExitCode;

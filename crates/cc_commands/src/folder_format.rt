@@ -3,9 +3,9 @@
 use crate::exit_status::{GOOD, REFUSED};
 use crate::folder_identity::write_identity;
 use crate::format_order::FormatOrder;
+use cc_command_line::Identity;
 use cc_flush::{Back, format};
 use cc_site::{FileSite, NoOutlet, Site};
-use cc_words::Identity;
 use std::alloc::Global;
 use std::fmt::Display;
 use std::fs::{File, Files};

@@ -1,6 +1,6 @@
 //! The file that tells the node of a folder from others.
 
-use cc_words::{Identity, IdentityFault, identity_in, identity_text};
+use cc_command_line::{Identity, IdentityFault, identity_in, identity_text};
 use std::alloc::Global;
 use std::fs::{File, Files};
 use std::io::{ErrorKind, Write};

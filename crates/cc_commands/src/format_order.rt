@@ -2,9 +2,9 @@
 
 use crate::warning::Warning;
 use cc_changes::{Fraction, need};
-use cc_network::ClusterName;
+use cc_command_line::{FormatWords, WordFault, fraction, list, small_number};
+use cc_connections::ClusterName;
 use cc_node::Opening;
-use cc_words::{FormatWords, WordFault, fraction, list, small_number};
 use std::alloc::Global;
 
 // The fractions of a node where no word says others.

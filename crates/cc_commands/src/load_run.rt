@@ -3,7 +3,7 @@
 use crate::network::end;
 use crate::statuses::print_word_fault;
 use cc_client::load_nodes;
-use cc_words::{LoadOrder, LoadWords, Operation};
+use cc_command_line::{LoadOrder, LoadWords, Operation};
 use std::net::{Net, TcpListener, TcpStream};
 use std::process::ExitCode;
 use std::sync::Wait;

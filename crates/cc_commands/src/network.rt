@@ -2,11 +2,11 @@
 
 use crate::statuses::{BAD_COMMAND_LINE, print_unreadable, print_word_fault};
 use cc_client::{Told, ask_node, leave_node, look_at, reason_at, retire_node, share_node};
-use cc_network::Address;
-use cc_words::{
+use cc_command_line::{
     AnswerForm, AskOrder, AskWords, CommandFault, Harmless, LeaveOrder, RetireOrder, RetireWords,
     ShareOrder, StatusOrder, WordFault,
 };
+use cc_connections::Address;
 use std::io::ErrorKind;
 use std::process::ExitCode;
 use std::time::Duration;

@@ -1,6 +1,7 @@
 //! What a node is, and what it waits for, line by line.
 
 use cc_churn::Churn;
+use cc_command_line::PrintedAnswer;
 use cc_links::LinkRow;
 use cc_messages::Answer;
 use cc_node::{Core, Node};
@@ -8,7 +9,6 @@ use cc_ops::{Asked, Ops, Stage};
 use cc_outbox::Outbox;
 use cc_sessions::{SessionRow, Sessions};
 use cc_views::{NoMemory, NodeId, View};
-use cc_words::PrintedAnswer;
 use std::alloc::{AllocError, Global};
 use std::io;
 use std::io::Write;

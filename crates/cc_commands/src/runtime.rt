@@ -2,7 +2,7 @@
 
 use crate::lines::Lines;
 use cc_channels::ReadText;
-use cc_words::LogLevel;
+use cc_command_line::LogLevel;
 use jiff::Timestamp;
 use log::kv::Source;
 use log::span::Spans;

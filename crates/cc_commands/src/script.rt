@@ -3,10 +3,10 @@
 use crate::delivery::Delivery;
 use crate::station::Resend;
 use cc_changes::Fraction;
+use cc_command_line::{command, fraction, list, number, small_number};
 use cc_messages::{Event, PostRange, Share};
 use cc_site::Choice;
 use cc_views::NodeId;
-use cc_words::{command, fraction, list, number, small_number};
 use std::alloc::{AllocError, Global};
 
 /// What one line asks for.

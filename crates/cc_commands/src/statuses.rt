@@ -1,6 +1,6 @@
 //! The statuses that all commands share, and what is printed with them.
 
-use cc_words::WordFault;
+use cc_command_line::WordFault;
 use std::io;
 use std::process::ExitCode;
 

@@ -11,7 +11,7 @@ use Rattle.cc_site.specs.declared.site.Site.{Ghosts}
 use Rattle.cc_site.specs.Sides.{SideState, other, settled, written, overwritten}
 use Rattle.cc_site.specs.Moments.{Contents}
 use Rattle.cc_site.specs.Reads.{OnlyReads, bytes_of, reads_then}
-use Rattle.cc_states.specs.Sides.{OPEN, IsArmed}
+use Rattle.cc_node_state.specs.Sides.{OPEN, IsArmed}
 use Rattle.cc_checkpoint.specs.declared.side_choice.Peeked.{Peeked}
 use Rattle.cc_checkpoint.specs.declared.side_choice.InUse.{InUse}
 use Rattle.cc_checkpoint.specs.declared.open_fault.OpenFault.{OpenFault}

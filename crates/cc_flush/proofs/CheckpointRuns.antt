@@ -21,9 +21,9 @@ use Rattle.cc_site.specs.Moments.{Contents, Possible, CountsOneFault}
 use Rattle.cc_site.specs.Gates.{IsShut}
 use Rattle.cc_site.specs.Runs.{EachMoment, OnlyNow, CountsNow, started, joined, weaker, now_has}
 use Rattle.cc_node.specs.Node.{Node, after}
-use Rattle.cc_states.specs.Sides.{OPEN, IsArmed, StandsAt}
-use Rattle.cc_states.specs.Fronts.{held_armed}
-use Rattle.cc_states.specs.Good.{RestsAt}
+use Rattle.cc_node_state.specs.Sides.{OPEN, IsArmed, StandsAt}
+use Rattle.cc_node_state.specs.Fronts.{held_armed}
+use Rattle.cc_node_state.specs.Good.{RestsAt}
 use Rattle.cc_checkpoint.specs.Images.{SpellsImage, image_holds}
 use Rattle.cc_checkpoint.specs.Checkpoints.{image_of, IsSurelyShut, IsFilled, IsGoodForAll, KeepsOff, RestsOff, RestsOn, ArmsFor}
 use Rattle.cc_checkpoint.specs.Stops.{Fills, RetireStops}

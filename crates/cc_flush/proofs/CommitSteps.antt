@@ -16,7 +16,7 @@ use Rattle.cc_site.specs.Sides.{SideState}
 use Rattle.cc_site.specs.Moments.{Contents}
 use Rattle.cc_site.specs.Runs.{joined, weaker}
 use Rattle.cc_node.specs.Node.{Node, after, line}
-use Rattle.cc_states.specs.GoodLaws.{good_for_more}
+use Rattle.cc_node_state.specs.GoodLaws.{good_for_more}
 use Rattle.cc_node.specs.Histories.{after-append}
 use Rattle.cc_journal.specs.declared.entry.Entry.{Entry}
 use Rattle.cc_journal.specs.Batches.{events_in}

@@ -15,7 +15,7 @@ use Rattle.cc_site.specs.Runs.{EachMoment, OnlyNow, started, joined, weaker}
 use Rattle.cc_site.specs.Crashes.{each_side}
 use Rattle.cc_site.specs.Reads.{OnlyReads, read_each}
 use Rattle.cc_node.specs.Node.{Node}
-use Rattle.cc_states.specs.Sides.{OPEN, IsArmed, Holds}
+use Rattle.cc_node_state.specs.Sides.{OPEN, IsArmed, Holds}
 use Rattle.cc_checkpoint.specs.Images.{SpellsImage, image_holds}
 use Rattle.cc_journal.specs.Journals.{IsAtRest}
 use Rattle.cc_flush.proofs.KeptSides.{none_made}

@@ -11,7 +11,7 @@ use Rattle.cc_site.specs.Reads.{OnlyReads, reads_then}
 use Rattle.cc_site.specs.Sides.{SideState, MayLeave, other, settled}
 use Rattle.cc_site.specs.Moments.{Contents}
 use Rattle.cc_node.specs.Node.{Node}
-use Rattle.cc_states.specs.Sides.{StandsAt}
+use Rattle.cc_node_state.specs.Sides.{StandsAt}
 use Rattle.cc_checkpoint.specs.declared.side_choice.InUse.{InUse}
 use Rattle.cc_checkpoint.specs.declared.open_fault.OpenFault.{OpenFault}
 use Rattle.cc_checkpoint.specs.SideChoice.{chosen}

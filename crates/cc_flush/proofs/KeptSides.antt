@@ -23,8 +23,8 @@ use Rattle.cc_site.specs.SideLaws.{settled_only}
 use Rattle.cc_site.specs.Moments.{Contents}
 use Rattle.cc_site.specs.Crashes.{AfterCrash}
 use Rattle.cc_node.specs.Node.{Node, after, step, IsLawful}
-use Rattle.cc_states.specs.Good.{AllMade, IsGoodAt}
-use Rattle.cc_states.specs.GoodLaws.{good_other_way, at_rest_is}
+use Rattle.cc_node_state.specs.Good.{AllMade, IsGoodAt}
+use Rattle.cc_node_state.specs.GoodLaws.{good_other_way, at_rest_is}
 use Rattle.cc_node.specs.Histories.{after-append}
 use Rattle.cc_journal.specs.declared.entry.Entry.{Entry}
 use Rattle.cc_journal.specs.Batches.{AreLawful, events_in}

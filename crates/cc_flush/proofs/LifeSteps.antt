@@ -23,7 +23,7 @@ use Rattle.cc_site.specs.Moments.{Contents}
 use Rattle.cc_site.specs.Runs.{EachMoment, OnlyNow, started, joined, weaker}
 use Rattle.cc_node.specs.Node.{Node, after, line}
 use Rattle.cc_node.specs.Histories.{after-append, IsLawful-append}
-use Rattle.cc_states.specs.GoodLaws.{good_for_more}
+use Rattle.cc_node_state.specs.GoodLaws.{good_for_more}
 use Rattle.cc_journal.specs.declared.entry.Entry.{Entry}
 use Rattle.cc_journal.specs.Batches.{AreLawful, events_in}
 use Rattle.cc_checkpoint.specs.declared.side_choice.InUse.{InUse}

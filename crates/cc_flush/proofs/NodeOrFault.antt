@@ -11,10 +11,10 @@ use Rattle.cc_site.specs.declared.site.Side.TheVariants.{A, B}
 use Rattle.cc_site.specs.Sides.{other}
 use Rattle.cc_site.specs.Moments.{Contents}
 use Rattle.cc_node.specs.Node.{Node}
-use Rattle.cc_states.specs.Layouts.{IsVersion, layout_of}
-use Rattle.cc_states.specs.Sides.{OPEN, StandsIn, Stands}
-use Rattle.cc_states.specs.States.{SpellsNode}
-use Rattle.cc_states.specs.Fronts.{generation_held, held_armed}
+use Rattle.cc_node_state.specs.Layouts.{IsVersion, layout_of}
+use Rattle.cc_node_state.specs.Sides.{OPEN, StandsIn, Stands}
+use Rattle.cc_node_state.specs.States.{SpellsNode}
+use Rattle.cc_node_state.specs.Fronts.{generation_held, held_armed}
 use Rattle.cc_checkpoint.specs.declared.side_choice.InUse.{InUse}
 use Rattle.cc_checkpoint.specs.declared.open_fault.OpenFault.{OpenFault}
 use Rattle.cc_checkpoint.specs.declared.open_fault.OpenFault.TheVariants.{NotFormatted, Damaged, Version, Device, NoMemory}

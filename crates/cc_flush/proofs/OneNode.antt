@@ -2,11 +2,11 @@
 use Rattle.std.proofs.Common.{◌≡◌, inl, inr, slice_index, ℕ, ◌+◌, ◌<◌, List, [], ◌∷◌, ◌++◌, length, drop, refl, sym, ◌∙◌, ap, subst, arith, length-append}
 use Rattle.std.proofs.lemmas.List.{append_assoc, drop_at}
 use Rattle.cc_node.specs.Node.{Node}
-use Rattle.cc_states.specs.Sides.{IsArmed, generation_of, Holds, Yields, StandsAt, StandsIn, Stands, events_of}
-use Rattle.cc_states.specs.declared.layout.Layout.{Layout}
-use Rattle.cc_states.specs.Layouts.{layout_of}
-use Rattle.cc_states.specs.States.{SpellsNode}
-use Rattle.cc_states.specs.Fronts.{generation_held, held_armed}
+use Rattle.cc_node_state.specs.Sides.{IsArmed, generation_of, Holds, Yields, StandsAt, StandsIn, Stands, events_of}
+use Rattle.cc_node_state.specs.declared.layout.Layout.{Layout}
+use Rattle.cc_node_state.specs.Layouts.{layout_of}
+use Rattle.cc_node_state.specs.States.{SpellsNode}
+use Rattle.cc_node_state.specs.Fronts.{generation_held, held_armed}
 use Rattle.cc_checkpoint.specs.Heads.{HeadAt, state_of}
 use Rattle.cc_checkpoint.proofs.HeadLaws.{head_found}
 use Rattle.cc_journal.specs.Scans.{ScansTo}

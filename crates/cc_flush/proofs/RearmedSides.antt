@@ -28,9 +28,9 @@ use Rattle.cc_site.specs.Reads.{OnlyReads, bytes_of, read_each, reads_then}
 use Rattle.cc_site.specs.Runs.{EachMoment, Passes, OnlyNow, CountsNow, started, rests, joined, weaker, now_has}
 use Rattle.cc_site.specs.Crashes.{AfterCrash, after_crash_of}
 use Rattle.cc_node.specs.Node.{Node, after}
-use Rattle.cc_states.specs.Sides.{OPEN, IsArmed, generation_of, Holds, StandsAt, Stands}
-use Rattle.cc_states.specs.Good.{AllMade, IsGoodAt}
-use Rattle.cc_states.specs.GoodLaws.{good_for_more, good_other_way, whole_good}
+use Rattle.cc_node_state.specs.Sides.{OPEN, IsArmed, generation_of, Holds, StandsAt, Stands}
+use Rattle.cc_node_state.specs.Good.{AllMade, IsGoodAt}
+use Rattle.cc_node_state.specs.GoodLaws.{good_for_more, good_other_way, whole_good}
 use Rattle.cc_checkpoint.specs.declared.side_choice.Peeked.{Peeked}
 use Rattle.cc_checkpoint.specs.declared.side_choice.Peeked.TheVariants.{Closed, Armed, Short}
 use Rattle.cc_checkpoint.specs.SideChoice.{peek_of}

@@ -3,7 +3,7 @@
 use Rattle.std.proofs.Common.{◌≡◌, ◌⊎◌, ◌≤◌, ◌∷◌, inl, inr, sym, ◌∙◌, ap, subst}
 use Rattle.cc_site.specs.declared.site.Site.{Ghosts}
 use Rattle.cc_site.specs.Sides.{durable, other}
-use Rattle.cc_states.specs.Sides.{OPEN}
+use Rattle.cc_node_state.specs.Sides.{OPEN}
 use Rattle.cc_checkpoint.specs.Checkpoints.{image_of}
 use Rattle.cc_node.specs.Node.{Node}
 use Rattle.cc_views.specs.Limits.{counter_limit}

@@ -35,7 +35,7 @@ use Rattle.cc_node.specs.Core.{Core, live_links}
 use Rattle.cc_node.specs.Lawful.{IsLawfulNode}
 use Rattle.cc_node.specs.Node.{Node, after, IsLawful, HasOutput, MayBeOut}
 use Rattle.cc_node.proofs.StandingLaws.{standing_made}
-use Rattle.cc_states.proofs.NodeStates.{entries_numbered, post_at, length-values}
+use Rattle.cc_node_state.proofs.NodeStates.{entries_numbered, post_at, length-values}
 use Rattle.cc_flush.specs.Resends.{waits_for, resend_on, resend_row, resend_post, resends, reply_of, reply_again, ack_again}
 use Rattle.cc_journal.specs.Outlet.{Puts}
 use Rattle.cc_journal.proofs.LinkSends.{entries_where}

@@ -17,7 +17,7 @@ use Rattle.cc_site.specs.declared.site.DeviceFault.{DeviceFault}
 use Rattle.cc_site.specs.ToldFaults.{Tells}
 use Rattle.cc_site.specs.Sides.{SideState, other, durable, MayHaveWritten}
 use Rattle.cc_node.specs.Node.{Node, after}
-use Rattle.cc_states.specs.Sides.{OPEN}
+use Rattle.cc_node_state.specs.Sides.{OPEN}
 use Rattle.cc_checkpoint.specs.Checkpoints.{image_of, IsFilled}
 use Rattle.cc_checkpoint.specs.Stops.{WritesOrSyncs, Fills, Retires, HasClosed, FillStops, RetireStops}
 use Rattle.cc_journal.specs.Journals.{Position, RestsNow}

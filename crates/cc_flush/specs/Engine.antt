@@ -15,7 +15,7 @@ use Rattle.cc_site.specs.declared.site.DeviceFault.{DeviceFault}
 use Rattle.cc_site.specs.contracts.site.DeviceFault as device_fault
 use Rattle.cc_site.specs.Sides.{SideState, MayLeave, other, settled}
 use Rattle.cc_node.specs.Node.{Node, after}
-use Rattle.cc_states.specs.Sides.{StandsAt}
+use Rattle.cc_node_state.specs.Sides.{StandsAt}
 use Rattle.cc_node.specs.Codes.{node_code}
 use Rattle.cc_checkpoint.specs.declared.side_choice.InUse.{InUse}
 use Rattle.cc_journal.specs.declared.entry.Entry.{Entry}

@@ -21,7 +21,7 @@ use Rattle.cc_site.specs.Gates.{IsShut}
 use Rattle.cc_site.specs.Moments.{Contents, Rose}
 use Rattle.cc_site.specs.ToldFaults.{Looks}
 use Rattle.cc_node.specs.Node.{Node}
-use Rattle.cc_states.specs.Sides.{OPEN, IsArmed, Stands}
+use Rattle.cc_node_state.specs.Sides.{OPEN, IsArmed, Stands}
 use Rattle.cc_node.specs.declared.opening.Fresh.{Fresh}
 use Rattle.cc_node.specs.declared.opening.Fresh.TheVariants as fresh
 use Rattle.cc_flush.specs.declared.format_sides.FormatFault.{FormatFault}

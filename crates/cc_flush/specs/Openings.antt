@@ -16,7 +16,7 @@ use Rattle.cc_site.specs.declared.site.Call.TheVariants.{Sync}
 use Rattle.cc_site.specs.Sides.{SideState, other, settled}
 use Rattle.cc_site.specs.Moments.{Contents}
 use Rattle.cc_site.specs.ToldFaults.{Looks, LooksAtEither}
-use Rattle.cc_states.specs.Sides.{Holds, StandsAt, events_of}
+use Rattle.cc_node_state.specs.Sides.{Holds, StandsAt, events_of}
 use Rattle.cc_node.specs.Node.{Node}
 use Rattle.cc_checkpoint.specs.declared.side_choice.InUse.{InUse}
 use Rattle.cc_checkpoint.specs.declared.open_fault.OpenFault.{OpenFault}

@@ -21,7 +21,7 @@ use Rattle.cc_site.specs.Reads.{bytes_of}
 use Rattle.cc_site.specs.Runs.{EachMoment}
 use Rattle.cc_site.specs.Crashes.{AfterCrash}
 use Rattle.cc_node.specs.Node.{Node, after}
-use Rattle.cc_states.specs.Sides.{OPEN, IsArmed, generation_of, Holds}
+use Rattle.cc_node_state.specs.Sides.{OPEN, IsArmed, generation_of, Holds}
 use Rattle.cc_checkpoint.specs.declared.side_choice.Peeked.{Peeked}
 use Rattle.cc_checkpoint.specs.declared.side_choice.Peeked.TheVariants.{Armed}
 use Rattle.cc_checkpoint.specs.Checkpoints.{image_of}

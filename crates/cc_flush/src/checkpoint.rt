@@ -7,7 +7,7 @@ ghost use Rattle.cc_site.specs.Runs.{EachMoment};
 ghost use Rattle.cc_site.specs.Sides.{durable, other};
 ghost use Rattle.cc_site.specs.ToldFaults.{CountsCalls};
 ghost use Rattle.cc_node.specs.Node.{Node as NodeValue, after};
-ghost use Rattle.cc_states.specs.Sides.{OPEN};
+ghost use Rattle.cc_node_state.specs.Sides.{OPEN};
 ghost use Rattle.cc_checkpoint.specs.Checkpoints.{image_of, IsFilled, RestsOn, KeepsOff};
 ghost use Rattle.cc_checkpoint.specs.Images.{SpellsImage};
 ghost use Rattle.cc_checkpoint.specs.Stops.{Fills, HasClosed};

@@ -14,7 +14,7 @@ ghost use Rattle.cc_views.specs.Limits.{counter_limit};
 ghost use Rattle.cc_links.specs.Links.{heard_from};
 ghost use Rattle.cc_node.specs.Lawful.{IsLawfulNode};
 ghost use Rattle.cc_node.specs.Node.{Node as NodeValue, IsLawful, after, line};
-ghost use Rattle.cc_states.specs.Sides.{StandsAt};
+ghost use Rattle.cc_node_state.specs.Sides.{StandsAt};
 ghost use Rattle.cc_checkpoint.specs.Faults.{FaultRose};
 ghost use Rattle.cc_journal.specs.Batches.{AreLawful, events_in, batch_bytes};
 ghost use Rattle.cc_journal.specs.GoodSides.{MayBeLeft, EachLeaves};

@@ -10,7 +10,7 @@ ghost use Rattle.cc_site.specs.Reads.{OnlyReads};
 ghost use Rattle.cc_site.specs.ToldFaults.{Looks, LooksAt, LooksAtEither, IsOn, CountsCalls};
 ghost use Rattle.cc_node.specs.Node.{Node as NodeState};
 ghost use Rattle.cc_node.specs.Openings.{told, fresh, IsOpening};
-ghost use Rattle.cc_states.specs.Sides.{OPEN, IsArmed};
+ghost use Rattle.cc_node_state.specs.Sides.{OPEN, IsArmed};
 ghost use Rattle.cc_checkpoint.specs.Images.{SpellsImage};
 ghost use Rattle.cc_journal.specs.Journals.{RestsNow};
 ghost use Rattle.cc_flush.specs.declared.format_sides.FormatFault.TheVariants as faults;

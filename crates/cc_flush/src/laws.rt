@@ -7,15 +7,15 @@ ghost use Rattle.cc_site.specs.declared.site.Side.{Side};
 ghost use Rattle.cc_site.specs.declared.site.Side.TheVariants.{A, B};
 ghost use Rattle.cc_site.specs.Moments.{Contents};
 ghost use Rattle.cc_node.specs.Node.{Node, after};
-ghost use Rattle.cc_states.specs.Sides.{IsArmed, StandsAt, StandsIn, Stands};
-ghost use Rattle.cc_states.specs.Good.{AllMade, IsGoodAt, RestsAt};
+ghost use Rattle.cc_node_state.specs.Sides.{IsArmed, StandsAt, StandsIn, Stands};
+ghost use Rattle.cc_node_state.specs.Good.{AllMade, IsGoodAt, RestsAt};
 ghost use Rattle.cc_journal.specs.GoodSides.{HasGoodSides};
 ghost use Rattle.cc_journal.specs.Journals.{IsGood};
 ghost use Rattle.cc_checkpoint.specs.declared.open_fault.OpenFault.{OpenFault};
 ghost use Rattle.cc_flush.specs.Openings.{IsReadingFault, ReadingFails};
 
 use cc_journal::scans_once;
-use cc_states::one_spelling_of_nodes;
+use cc_node_state::one_spelling_of_nodes;
 
 /// Two sides stand for at most one node: on one side, under one generation, up to one gate.
 pub fn one_node()

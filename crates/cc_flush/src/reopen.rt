@@ -9,7 +9,7 @@ ghost use Rattle.cc_site.specs.ToldFaults.{CountsCalls};
 ghost use Rattle.cc_checkpoint.specs.Faults.{FaultRose};
 ghost use Rattle.cc_views.specs.Limits.{counter_limit};
 ghost use Rattle.cc_node.specs.Node.{Node};
-ghost use Rattle.cc_states.specs.Sides.{OPEN, IsArmed};
+ghost use Rattle.cc_node_state.specs.Sides.{OPEN, IsArmed};
 ghost use Rattle.cc_journal.specs.Journals.{StaysGood};
 ghost use Rattle.cc_flush.specs.Commits.{LeadsTo};
 ghost use Rattle.cc_flush.specs.Checkpoints.{Moves};

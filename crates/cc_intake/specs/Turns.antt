@@ -5,7 +5,7 @@
 --     Turns                   a batch was popped, and handed to the engine
 use Rattle.std.specs.Prelude.{◌≡◌, ◌≤◌, ◌<◌, ◌⊎◌, ◌+◌, ℕ, List, [], ◌∷◌, ◌++◌, length, Option, None, IsSomeAnd, IsFalse, IfOk, Result, MatchResult}
 use Rattle.cc_site.specs.declared.site.Site.{Ghosts}
-use Rattle.cc_states.specs.Sides.{batch_limit, record_limit, events_spelling}
+use Rattle.cc_node_state.specs.Sides.{batch_limit, record_limit, events_spelling}
 use Rattle.cc_journal.specs.declared.entry.Entry.{Entry}
 use Rattle.cc_journal.specs.Batches.{events_in}
 use Rattle.cc_flush.specs.declared.flusher.Failed.{Failed}

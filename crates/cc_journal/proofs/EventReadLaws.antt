@@ -15,8 +15,8 @@ use Rattle.cc_messages.specs.declared.event.Event.{Event}
 use Rattle.cc_wire.specs.Events.{event_spelling, IsEvent, SpellsEvent}
 use Rattle.cc_wire.proofs.Lengths.{length-event}
 use Rattle.cc_wire.proofs.Spelled.{IsBytes}
-use Rattle.cc_states.specs.Sides.{sized_spelling}
-use Rattle.cc_states.specs.RecordLaws.{one_sized, one_run}
+use Rattle.cc_node_state.specs.Sides.{sized_spelling}
+use Rattle.cc_node_state.specs.RecordLaws.{one_sized, one_run}
 use Rattle.cc_journal.specs.EventReads.{SpellsEvents, BeginsWith, NoEvent}
 
 -- ---- a number of four bytes

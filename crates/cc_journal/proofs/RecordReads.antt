@@ -5,7 +5,7 @@ use Rattle.std.specs.List.{flat_map}
 use Rattle.std.proofs.lemmas.List.{take_at}
 use Rattle.cc_messages.specs.declared.event.Event.{Event}
 use Rattle.cc_node.specs.Node.{Node}
-use Rattle.cc_states.specs.Sides.{sized_spelling, events_spelling, record_spelling, SpellsRecord}
+use Rattle.cc_node_state.specs.Sides.{sized_spelling, events_spelling, record_spelling, SpellsRecord}
 use Rattle.cc_journal.specs.Scans.{NoRecord}
 use Rattle.cc_journal.specs.EventReads.{BytesLead, LeadNowhere, RecordLeads, BodyStands, NoBody, IfDamaged}
 use Rattle.cc_journal.specs.declared.record_scan.ScanFault.{ScanFault}

@@ -12,7 +12,7 @@ use Rattle.cc_wire.specs.Events.{event_spelling}
 use Rattle.cc_journal.specs.declared.entry.Entry.{Entry}
 use Rattle.cc_journal.specs.Batches.{events_in, batch_bytes}
 use Rattle.cc_journal.proofs.LinkSends.{next}
-use Rattle.cc_states.specs.Sides.{SpellsBatch, SpellsRecord, record_spelling, events_spelling, sized_spelling}
+use Rattle.cc_node_state.specs.Sides.{SpellsBatch, SpellsRecord, record_spelling, events_spelling, sized_spelling}
 
 -- the events of some entries, each behind its size
 abbrev pub sized : List Entry → List ℕ

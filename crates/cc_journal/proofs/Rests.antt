@@ -15,11 +15,11 @@ use Rattle.cc_site.specs.Moments.{Contents, Within}
 use Rattle.cc_site.specs.Crashes.{after_crash_of}
 use Rattle.cc_site.specs.FrontLaws.{touch_keeps, restored}
 use Rattle.cc_node.specs.Node.{Node, after, IsLawful}
-use Rattle.cc_states.specs.Sides.{OPEN, Holds, SpellsBatch, StandsBehind}
-use Rattle.cc_states.specs.Good.{IsGoodAt, RestsAt, AllMade}
+use Rattle.cc_node_state.specs.Sides.{OPEN, Holds, SpellsBatch, StandsBehind}
+use Rattle.cc_node_state.specs.Good.{IsGoodAt, RestsAt, AllMade}
 use Rattle.cc_node.specs.Histories.{after-append, made_more}
-use Rattle.cc_states.specs.Fronts.{holds_within, holds_kept, holds_closed, holds_opened, one_byte}
-use Rattle.cc_states.specs.GoodLaws.{good_other_way, more_good, whole_good}
+use Rattle.cc_node_state.specs.Fronts.{holds_within, holds_kept, holds_closed, holds_opened, one_byte}
+use Rattle.cc_node_state.specs.GoodLaws.{good_other_way, more_good, whole_good}
 use Rattle.cc_journal.specs.Journals.{Position, IsGood, Rests, IsAtRest}
 
 -- what is good of a side and the other one is good

@@ -6,8 +6,8 @@ use Rattle.std.proofs.Common.{arith, length-drop}
 use Rattle.std.proofs.lemmas.Bool.{cases_Bool, eqb-true, eqb-false}
 use Rattle.cc_messages.specs.declared.event.Event.{Event}
 use Rattle.cc_node.specs.Node.{Node, after}
-use Rattle.cc_states.specs.Sides.{OPEN, events_of}
-use Rattle.cc_states.specs.RecordLaws.{Ends, one_front}
+use Rattle.cc_node_state.specs.Sides.{OPEN, events_of}
+use Rattle.cc_node_state.specs.RecordLaws.{Ends, one_front}
 use Rattle.cc_journal.specs.Scans.{ScansTo, StopsAt, NoRecord}
 use Rattle.cc_journal.proofs.Scans.{Stop, SoFar, none_so_far, one_more, scanned, ended, stopped}
 

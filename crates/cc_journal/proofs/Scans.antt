@@ -8,8 +8,8 @@ use Rattle.std.proofs.lemmas.List.{append_assoc, drop_at, drop-drop, drop_all}
 use Rattle.cc_messages.specs.declared.event.Event.{Event}
 use Rattle.cc_node.specs.Node.{Node, after, IsLawful}
 use Rattle.cc_node.specs.Histories.{after-append, IsLawful-append}
-use Rattle.cc_states.specs.Sides.{OPEN, SpellsRecords, events_of}
-use Rattle.cc_states.specs.Fronts.{records_push, events_push}
+use Rattle.cc_node_state.specs.Sides.{OPEN, SpellsRecords, events_of}
+use Rattle.cc_node_state.specs.Fronts.{records_push, events_push}
 use Rattle.cc_journal.specs.Scans.{ScansTo, StopsAt, NoRecord}
 use Rattle.cc_journal.specs.EventReads.{RecordLeads, BeginsOpen, BeginsClosed, IsStopped}
 

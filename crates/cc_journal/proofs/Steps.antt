@@ -14,9 +14,9 @@ use Rattle.cc_site.specs.SideLaws.{settled_only}
 use Rattle.cc_site.specs.Moments.{Contents, Within, Nothing}
 use Rattle.cc_site.specs.Runs.{Passes, EachMoment, OnlyNow, CountsNow, started, goes_on, joined, weaker, now_has}
 use Rattle.cc_node.specs.Node.{Node, after}
-use Rattle.cc_states.specs.Sides.{OPEN, SpellsBatch, StandsBehind}
-use Rattle.cc_states.specs.Good.{RestsAt}
-use Rattle.cc_states.specs.Fronts.{holds_within}
+use Rattle.cc_node_state.specs.Sides.{OPEN, SpellsBatch, StandsBehind}
+use Rattle.cc_node_state.specs.Good.{RestsAt}
+use Rattle.cc_node_state.specs.Fronts.{holds_within}
 use Rattle.cc_journal.specs.Journals.{Position, Rests, RestsNow, RestsFor, KeepsGood, with_open_gate}
 use Rattle.cc_journal.proofs.Rests.{IsReady, behind_rests, rest_of, rests_more_good, gate_good, opened_rests}
 

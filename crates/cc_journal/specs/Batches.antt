@@ -8,7 +8,7 @@ use Rattle.cc_messages.specs.declared.event.Event.{Event}
 use Rattle.cc_node.specs.Core.{made}
 use Rattle.cc_node.specs.Node.{Node, step}
 use Rattle.cc_node.specs.Refusals.{decides}
-use Rattle.cc_states.specs.Sides.{batch_limit, record_limit, record_spelling, events_spelling}
+use Rattle.cc_node_state.specs.Sides.{batch_limit, record_limit, record_spelling, events_spelling}
 use Rattle.cc_journal.specs.declared.entry.Entry.{Entry}
 
 abbrev pub events_in : List Entry → List Event

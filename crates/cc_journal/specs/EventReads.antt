@@ -14,7 +14,7 @@ use Rattle.std.specs.List.{AllByRecursion}
 use Rattle.cc_messages.specs.declared.event.Event.{Event}
 use Rattle.cc_wire.specs.Events.{IsEvent}
 use Rattle.cc_node.specs.Node.{Node, after, IsLawful}
-use Rattle.cc_states.specs.Sides.{OPEN, batch_limit, record_limit, sized_spelling, events_spelling, SpellsRecord}
+use Rattle.cc_node_state.specs.Sides.{OPEN, batch_limit, record_limit, sized_spelling, events_spelling, SpellsRecord}
 use Rattle.cc_site.specs.declared.site.Side.{Side}
 use Rattle.cc_site.specs.ToldFaults.{LooksAt, Tells}
 use Rattle.cc_journal.specs.Scans.{ScansTo, StopsAt}

@@ -14,8 +14,8 @@ use Rattle.cc_site.specs.declared.site.Site.{Ghosts}
 use Rattle.cc_site.specs.Moments.{Contents}
 use Rattle.cc_site.specs.Runs.{EachMoment, weaker}
 use Rattle.cc_node.specs.Node.{Node, after}
-use Rattle.cc_states.specs.Sides.{Stands}
-use Rattle.cc_states.specs.Good.{AllMade}
+use Rattle.cc_node_state.specs.Sides.{Stands}
+use Rattle.cc_node_state.specs.Good.{AllMade}
 use Rattle.cc_journal.specs.Journals.{IsGood, IsGoodNow}
 use Rattle.cc_journal.specs.GoodSides.{HasGoodSides, HasGoodSidesNow, EachLeaves}
 

@@ -13,7 +13,7 @@ use Rattle.cc_site.specs.Sides.{SideState, MayLeave}
 use Rattle.cc_site.specs.Moments.{Contents}
 use Rattle.cc_site.specs.Runs.{EachMoment}
 use Rattle.cc_node.specs.Node.{Node, after}
-use Rattle.cc_states.specs.Sides.{Stands}
+use Rattle.cc_node_state.specs.Sides.{Stands}
 
 abbrev pub MayBeLeft : (Side → SideState) → Contents → Type 0
 MayBeLeft state left = (side : Side) → MayLeave (state side) (left side)

@@ -27,8 +27,8 @@ use Rattle.cc_site.specs.Moments.{Contents}
 use Rattle.cc_site.specs.Runs.{EachMoment}
 use Rattle.cc_site.specs.Crashes.{AfterCrash}
 use Rattle.cc_node.specs.Node.{Node, IsLawful, after}
-use Rattle.cc_states.specs.Good.{IsGoodAt, RestsAt}
-use Rattle.cc_states.specs.Sides.{OPEN, SpellsRecord, record_spelling}
+use Rattle.cc_node_state.specs.Good.{IsGoodAt, RestsAt}
+use Rattle.cc_node_state.specs.Sides.{OPEN, SpellsRecord, record_spelling}
 use Rattle.cc_journal.specs.declared.entry.Entry.{Entry}
 use Rattle.cc_journal.specs.Batches.{events_in, batch_bytes}
 

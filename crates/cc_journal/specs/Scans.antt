@@ -4,7 +4,7 @@
 use Rattle.std.specs.Prelude.{◌≡◌, ◌≢◌, ◌⊎◌, ℕ, ◌+◌, List, [], ◌∷◌, ◌++◌, length}
 use Rattle.cc_messages.specs.declared.event.Event.{Event}
 use Rattle.cc_node.specs.Node.{Node, after, IsLawful}
-use Rattle.cc_states.specs.Sides.{OPEN, SpellsRecord, SpellsRecords, events_of}
+use Rattle.cc_node_state.specs.Sides.{OPEN, SpellsRecord, SpellsRecords, events_of}
 
 -- Records of lawful events, so many bytes of them with their gates, so many records and so many events, and behind them a
 -- closed gate.

@@ -1,7 +1,7 @@
 //! Entries that become durable together.
 
 ghost use Rattle.std.specs.Prelude.{◌≡◌, ◌↔◌, ◌≤◌, ◌<◌, ◌++◌, ◌∷◌, [], length, OnOk, OnErr, IfErr, IsOk};
-ghost use Rattle.cc_states.specs.Sides.{batch_limit, record_limit, events_spelling};
+ghost use Rattle.cc_node_state.specs.Sides.{batch_limit, record_limit, events_spelling};
 ghost use Rattle.cc_node.specs.Node.{after, line};
 ghost use Rattle.cc_journal.specs.Batches.{AreLawful, events_in};
 ghost use Rattle.cc_journal.specs.Outlet.{Puts};

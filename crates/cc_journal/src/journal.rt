@@ -9,7 +9,7 @@ ghost use Rattle.cc_site.specs.declared.site.Call.TheVariants.{Write, Sync};
 ghost use Rattle.cc_site.specs.Sides.{other, HalfWritten};
 ghost use Rattle.cc_site.specs.Moments.{Rose};
 ghost use Rattle.cc_node.specs.Node.{Node as NodeValue, after, line};
-ghost use Rattle.cc_states.specs.Sides.{StandsBehind, SpellsBatch};
+ghost use Rattle.cc_node_state.specs.Sides.{StandsBehind, SpellsBatch};
 ghost use Rattle.cc_journal.specs.Batches.{AreLawful, events_in, batch_bytes};
 ghost use Rattle.cc_journal.specs.Outlet.{Puts};
 ghost use Rattle.cc_journal.specs.Journals.{Position, bytes_ahead, end_ahead, with_record, with_open_gate, record_room, room_limit, KeepsGood};

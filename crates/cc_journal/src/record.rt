@@ -4,7 +4,7 @@ ghost use Rattle.std.specs.Prelude.{◌≡◌, ◌≤◌, ◌<◌, ◌∷◌, []
 ghost use Rattle.std.specs.List.{flat_map, AllByRecursion};
 ghost use Rattle.std.specs.Vec.{vec_capacity};
 ghost use Rattle.cc_wire.specs.Events.{IsEvent};
-ghost use Rattle.cc_states.specs.Sides.{SpellsRecord, record_spelling, sized_spelling, record_limit};
+ghost use Rattle.cc_node_state.specs.Sides.{SpellsRecord, record_spelling, sized_spelling, record_limit};
 ghost use Rattle.cc_journal.specs.Batches.{events_in, batch_bytes};
 ghost use Rattle.cc_journal.specs.Journals.{record_room};
 

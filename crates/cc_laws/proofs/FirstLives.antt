@@ -20,9 +20,9 @@ use Rattle.cc_site.specs.Moments.{Contents, Possible}
 use Rattle.cc_site.specs.Reads.{bytes_of}
 use Rattle.cc_site.specs.Runs.{EachMoment, OnlyNow, CountsNow, started, joined, weaker, now_has}
 use Rattle.cc_node.specs.Node.{Node, after, step, IsLawful}
-use Rattle.cc_states.specs.Good.{IsGoodAt, RestsAt}
-use Rattle.cc_states.specs.GoodLaws.{whole_good, good_other_way, good_for_more}
-use Rattle.cc_states.specs.Sides.{StandsAt, Stands}
+use Rattle.cc_node_state.specs.Good.{IsGoodAt, RestsAt}
+use Rattle.cc_node_state.specs.GoodLaws.{whole_good, good_other_way, good_for_more}
+use Rattle.cc_node_state.specs.Sides.{StandsAt, Stands}
 use Rattle.cc_journal.specs.declared.entry.Entry.{Entry}
 use Rattle.cc_journal.specs.Batches.{AreLawful, events_in}
 use Rattle.cc_journal.specs.Journals.{Position, IsGood, RestsNow, IsGoodNow, KeepsGood, StaysGood}

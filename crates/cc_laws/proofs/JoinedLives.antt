@@ -10,7 +10,7 @@ use Rattle.cc_site.specs.declared.site.Side.TheVariants.{A, B}
 use Rattle.cc_node.specs.Node.{Node, after, line, MayBeOut, IsLawful}
 use Rattle.cc_node.specs.Lawful.{IsLawfulNode}
 use Rattle.cc_node.specs.Histories.{after-append, line-append, IsLawful-append, lawful_parts, made_more}
-use Rattle.cc_states.specs.Sides.{Stands}
+use Rattle.cc_node_state.specs.Sides.{Stands}
 use Rattle.cc_node.proofs.FreshLaws.{after_lawful}
 use Rattle.cc_node.proofs.StandingLaws.{standing_made}
 use Rattle.cc_laws.specs.Lives.{Life, LivesFrom, put_by, put_along, IsHistoryOf}

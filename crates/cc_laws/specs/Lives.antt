@@ -17,8 +17,8 @@ use Rattle.cc_messages.specs.declared.output.Output.{Output}
 use Rattle.cc_site.specs.declared.site.Side.TheVariants.{A, B}
 use Rattle.cc_site.specs.Moments.{Contents}
 use Rattle.cc_node.specs.Node.{Node, after, MayBeOut, IsLawful}
-use Rattle.cc_states.specs.Sides.{Stands}
-use Rattle.cc_states.specs.Good.{IsGoodAt}
+use Rattle.cc_node_state.specs.Sides.{Stands}
+use Rattle.cc_node_state.specs.Good.{IsGoodAt}
 use Rattle.cc_laws.specs.Shown.{in_output, Shows}
 
 pub record Life : Type 0 where

@@ -8,7 +8,7 @@ ghost use Rattle.cc_site.specs.Moments.{Contents};
 ghost use Rattle.cc_site.specs.Runs.{EachMoment};
 ghost use Rattle.cc_node.specs.Node.{Node, line};
 ghost use Rattle.cc_node.specs.Openings.{told, fresh, IsOpening};
-ghost use Rattle.cc_states.specs.Sides.{Stands};
+ghost use Rattle.cc_node_state.specs.Sides.{Stands};
 ghost use Rattle.cc_journal.specs.Batches.{AreLawful, events_in};
 ghost use Rattle.cc_journal.specs.Journals.{IsGood, IsGoodNow};
 ghost use Rattle.cc_flush.specs.FormatSides.{AreShut, FormatFails};

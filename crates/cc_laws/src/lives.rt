@@ -13,7 +13,7 @@ ghost use Rattle.cc_site.specs.Runs.{EachMoment};
 ghost use Rattle.cc_node.specs.Node.{Node, after, IsLawful};
 ghost use Rattle.cc_node.specs.Lawful.{IsLawfulNode};
 ghost use Rattle.cc_node.specs.Openings.{Opening, IsOpening, fresh};
-ghost use Rattle.cc_states.specs.Sides.{Stands};
+ghost use Rattle.cc_node_state.specs.Sides.{Stands};
 ghost use Rattle.cc_journal.specs.Journals.{Position, IsGood, IsGoodNow, RestsNow};
 ghost use Rattle.cc_laws.specs.Shown.{Has};
 ghost use Rattle.cc_laws.specs.Orders.{AreComparable};

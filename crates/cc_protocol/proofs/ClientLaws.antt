@@ -11,8 +11,8 @@ use Rattle.std.proofs.lemmas.Bool.Decides.{nat_tests}
 use Rattle.cc_messages.specs.declared.answer.Answer.{Answer}
 use Rattle.cc_messages.specs.declared.answer.Answer.TheVariants as answers
 use Rattle.cc_messages.specs.declared.command.Command.{Command}
-use Rattle.cc_network.specs.declared.frame.Frame.{Frame}
-use Rattle.cc_network.specs.declared.frame.Frame.TheVariants as frame
+use Rattle.cc_connections.specs.declared.frame.Frame.{Frame}
+use Rattle.cc_connections.specs.declared.frame.Frame.TheVariants as frame
 use Rattle.cc_messages.specs.declared.refusal.Refusal.{Refusal}
 use Rattle.cc_messages.specs.declared.refusal.Refusal.TheVariants as refusal
 use Rattle.cc_messages.specs.Refusals.{number_of, value_of}

@@ -7,7 +7,7 @@ use Rattle.std.proofs.Common.{refl, sym, ap, subst, ◌∙◌, arith, inl, inr}
 use Rattle.std.specs.Prelude.{filter, find, unwrap_or, option_map}
 use Rattle.std.proofs.lemmas.Bool.{cases_eq, eqb-true, eq-eqb, ne_eqb, ltb-true, ltb-false, cond-true, cond-false}
 use Rattle.std.proofs.lemmas.List.{length-append}
-use Rattle.cc_network.specs.declared.hello.Hello.{Hello}
+use Rattle.cc_connections.specs.declared.hello.Hello.{Hello}
 use Rattle.cc_protocol.specs.declared.greetings.PeerGreeting.{PeerGreeting}
 use Rattle.cc_protocol.specs.Greetings.{Greetings, IsGreetings, found, others, row_after, after_welcome, of_node, first_birth}
 use Rattle.cc_protocol.specs.Greetings.{last_other, told_by, told, table_of, AreRemembered, AreAllRemembered}

@@ -12,15 +12,15 @@ use Rattle.std.proofs.Math.Seq.{drop-drop}
 use Rattle.std.proofs.lemmas.List.Concat.{flat_map-cons}
 use Rattle.cc_wire.specs.declared.fault.WireFault.{WireFault}
 use Rattle.cc_wire.specs.declared.fault.WireFault.TheVariants.{Short, BadKind, NotAscending, TooLarge, Trailing, NoMemory, Broken}
-use Rattle.cc_network.specs.declared.frame.Frame.{Frame}
-use Rattle.cc_network.specs.declared.frame_reader.Fed.{Fed}
+use Rattle.cc_connections.specs.declared.frame.Frame.{Frame}
+use Rattle.cc_connections.specs.declared.frame_reader.Fed.{Fed}
 use Rattle.cc_wire.specs.Readers.{Gives}
-use Rattle.cc_network.specs.Frames.{frame_spelling, frame_at}
-use Rattle.cc_network.specs.Held.{is_partial}
-use Rattle.cc_network.specs.Streams.{fed, rest_after, held_after, at_start, frames_of, Feed, AreFeeds, Reads, Refuses}
-use Rattle.cc_network.proofs.Fronts.{partial_fits}
-use Rattle.cc_network.proofs.Feeds.{given_of, nothing_partial}
-use Rattle.cc_network.proofs.StreamLaws.{feeds_read, feeds_refuse}
+use Rattle.cc_connections.specs.Frames.{frame_spelling, frame_at}
+use Rattle.cc_connections.specs.Held.{is_partial}
+use Rattle.cc_connections.specs.Streams.{fed, rest_after, held_after, at_start, frames_of, Feed, AreFeeds, Reads, Refuses}
+use Rattle.cc_connections.proofs.Fronts.{partial_fits}
+use Rattle.cc_connections.proofs.Feeds.{given_of, nothing_partial}
+use Rattle.cc_connections.proofs.StreamLaws.{feeds_read, feeds_refuse}
 use Rattle.cc_protocol.specs.ReceivedFrames.{ahead, unused, Begins, held_length, Next, Passes, IsBad, IsRefused}
 
 together : (a b : List ℕ) → AllByRecursion (λ x. x < 256) a → AllByRecursion (λ x. x < 256) b → AllByRecursion (λ x. x < 256) (a ++ b)

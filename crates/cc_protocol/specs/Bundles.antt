@@ -3,8 +3,8 @@
 --     with_parcel        one parcel more
 --     bundle_bytes       the bytes of the write of the node `me`
 use Rattle.std.specs.Prelude.{ℕ, List, [], ◌++◌, Option, Some, None}
-use Rattle.cc_network.specs.declared.frame.Frame.TheVariants as frame
-use Rattle.cc_network.specs.Frames.{frame_spelling}
+use Rattle.cc_connections.specs.declared.frame.Frame.TheVariants as frame
+use Rattle.cc_connections.specs.Frames.{frame_spelling}
 use Rattle.cc_protocol.specs.declared.bundle.Parcel.{Parcel}
 use Rattle.cc_protocol.specs.declared.bundle.Parcel.TheVariants as parcel
 

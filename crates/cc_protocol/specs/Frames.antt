@@ -8,12 +8,12 @@ use Rattle.std.specs.Prelude.{ℕ, List, [], ◌++◌, Option, Some, None, if◌
 use Rattle.cc_messages.specs.Refusals.{number_of, value_of}
 use Rattle.cc_messages.specs.Ranges.{Range}
 use Rattle.cc_messages.specs.declared.message.Message.{Message}
-use Rattle.cc_network.specs.Frames.{frame_spelling}
+use Rattle.cc_connections.specs.Frames.{frame_spelling}
 use Rattle.cc_protocol.specs.declared.withheld.Due.{Due}
 use Rattle.cc_messages.specs.declared.event.Event.{Event}
 use Rattle.cc_messages.specs.declared.event.Event.TheVariants as event
-use Rattle.cc_network.specs.declared.frame.Frame.{Frame}
-use Rattle.cc_network.specs.declared.frame.Frame.TheVariants as frame
+use Rattle.cc_connections.specs.declared.frame.Frame.{Frame}
+use Rattle.cc_connections.specs.declared.frame.Frame.TheVariants as frame
 use Rattle.cc_messages.specs.declared.output.Output.{Output}
 use Rattle.cc_messages.specs.declared.output.Output.TheVariants as output
 use Rattle.cc_messages.specs.declared.refusal.Refusal.{Refusal}

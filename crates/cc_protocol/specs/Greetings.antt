@@ -13,11 +13,11 @@ use Rattle.std.specs.Prelude.{◌≡◌, ◌≤◌, ◌<◌, ℕ, ◌==◌, ◌&
 use Rattle.std.specs.Prelude.{Option, Some, None, option_map, unwrap_or, if◌then◌else◌}
 use Rattle.std.specs.List.{list_any}
 use Rattle.cc_changes.specs.declared.fraction.Fraction.{Fraction}
-use Rattle.cc_network.specs.declared.frame.Frame.{Frame}
-use Rattle.cc_network.specs.declared.frame.Frame.TheVariants as frame
-use Rattle.cc_network.specs.declared.hello.Hello.{Hello}
-use Rattle.cc_network.specs.declared.hello.Reason.{Reason}
-use Rattle.cc_network.specs.declared.hello.Reason.TheVariants as reason
+use Rattle.cc_connections.specs.declared.frame.Frame.{Frame}
+use Rattle.cc_connections.specs.declared.frame.Frame.TheVariants as frame
+use Rattle.cc_connections.specs.declared.hello.Hello.{Hello}
+use Rattle.cc_connections.specs.declared.hello.Reason.{Reason}
+use Rattle.cc_connections.specs.declared.hello.Reason.TheVariants as reason
 use Rattle.cc_protocol.specs.declared.greetings.Recipient.{Recipient}
 use Rattle.cc_protocol.specs.declared.greetings.PeerGreeting.{PeerGreeting}
 use Rattle.cc_protocol.specs.declared.greetings.Greeted.{Greeted}

@@ -8,9 +8,9 @@ use Rattle.std.specs.Prelude.{◌≡◌, ◌<◌, ◌≤◌, ◌+◌, ℕ, List,
 use Rattle.std.specs.List.{AllByRecursion}
 use Rattle.cc_wire.specs.declared.fault.WireFault.{WireFault}
 use Rattle.cc_wire.specs.declared.fault.WireFault.TheVariants.{NoMemory}
-use Rattle.cc_network.specs.declared.frame.Frame.{Frame}
-use Rattle.cc_network.specs.Frames.{frame_spelling, IsFrame, frame_at}
-use Rattle.cc_network.specs.Held.{is_partial}
+use Rattle.cc_connections.specs.declared.frame.Frame.{Frame}
+use Rattle.cc_connections.specs.Frames.{frame_spelling, IsFrame, frame_at}
+use Rattle.cc_connections.specs.Held.{is_partial}
 use Rattle.cc_protocol.specs.declared.received_frames.Ending.{Ending}
 use Rattle.cc_protocol.specs.declared.received_frames.Ending.TheVariants as ending
 

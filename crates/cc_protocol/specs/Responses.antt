@@ -7,7 +7,7 @@ use Rattle.cc_messages.specs.declared.event.Event.{Event}
 use Rattle.cc_messages.specs.declared.event.Event.TheVariants as event
 use Rattle.cc_messages.specs.declared.refusal.Refusal.{Refusal}
 use Rattle.cc_messages.specs.declared.refusal.Refusal.TheVariants as refusal
-use Rattle.cc_network.specs.declared.frame.Frame.{Frame}
+use Rattle.cc_connections.specs.declared.frame.Frame.{Frame}
 use Rattle.cc_protocol.specs.Frames.{refusal_frame}
 use Rattle.cc_protocol.specs.declared.response.Duty.{Duty}
 use Rattle.cc_protocol.specs.declared.response.Duty.TheVariants as duty

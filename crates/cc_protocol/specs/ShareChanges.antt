@@ -4,8 +4,8 @@
 --     share_outcome_along    as the first of the frames says that is
 --     shares_told            what a node tells of the request that comes twice
 use Rattle.std.specs.Prelude.{ℕ, ◌==◌, ◌&&◌, List, [], ◌∷◌, ◌++◌, Option, Some, None, if◌then◌else◌}
-use Rattle.cc_network.specs.declared.frame.Frame.{Frame}
-use Rattle.cc_network.specs.declared.frame.Frame.TheVariants as frame
+use Rattle.cc_connections.specs.declared.frame.Frame.{Frame}
+use Rattle.cc_connections.specs.declared.frame.Frame.TheVariants as frame
 use Rattle.cc_messages.specs.declared.event.Event.TheVariants as event
 use Rattle.cc_messages.specs.declared.refusal.Refusal.{Refusal}
 use Rattle.cc_messages.specs.declared.refusal.Refusal.TheVariants as refusal

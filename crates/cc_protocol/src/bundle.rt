@@ -1,12 +1,12 @@
 //! What one write takes to a peer.
 
 ghost use Rattle.std.specs.Prelude.{◌≡◌, ◌++◌, length, IfOk, OnOk};
-ghost use Rattle.cc_network.specs.declared.frame.Frame.TheVariants as frame;
-ghost use Rattle.cc_network.specs.Frames.{frame_spelling};
+ghost use Rattle.cc_connections.specs.declared.frame.Frame.TheVariants as frame;
+ghost use Rattle.cc_connections.specs.Frames.{frame_spelling};
 ghost use Rattle.cc_protocol.specs.Bundles.{no_parcel, with_parcel, bundle_bytes};
 
 use crate::frames::ack_frame;
-use cc_network::encode_frame;
+use cc_connections::encode_frame;
 use cc_views::{NoMemory, NodeId};
 use std::alloc::Global;
 use std::marker::Model;

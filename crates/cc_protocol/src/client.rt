@@ -2,7 +2,7 @@
 
 ghost use Rattle.std.specs.Prelude.{◌≡◌, ◌+◌, ◌⊎◌, ℕ, List, Some, None, if◌then◌else◌};
 ghost use Rattle.std.specs.List.{AllByRecursion};
-ghost use Rattle.cc_network.specs.declared.frame.Frame.TheVariants as frame;
+ghost use Rattle.cc_connections.specs.declared.frame.Frame.TheVariants as frame;
 ghost use Rattle.cc_messages.specs.Refusals.{number_of, value_of};
 ghost use Rattle.cc_messages.specs.declared.answer.Answer.TheVariants as answers;
 ghost use Rattle.cc_messages.specs.declared.event.Event.TheVariants as event;
@@ -18,8 +18,8 @@ ghost use Rattle.cc_protocol.specs.Clients.{command_step, command_client, number
 ghost use Rattle.cc_protocol.specs.Clients.{refused_step, refused_client, told_step, told_client, came_step, came_client, step_of, client_after, steps};
 ghost use Rattle.cc_protocol.specs.Clients.{next_stage, next_client, AsksUnder, Reads, IsAnswered, IsFenced, fence};
 
+use cc_connections::Frame;
 use cc_messages::{Answer, Command, Refusal};
-use cc_network::Frame;
 
 /// One command of a client in its session. A session has one client at a time.
 #[derive(Clone, Copy, PartialEq, Eq)]

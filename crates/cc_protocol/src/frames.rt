@@ -2,13 +2,13 @@
 
 ghost use Rattle.std.specs.Prelude.{◌≡◌, ◌++◌, ℕ, Some, IfOk, IfSome, OnOk};
 ghost use Rattle.cc_wire.specs.Messages.{message_spelling};
-ghost use Rattle.cc_network.specs.Frames.{frame_spelling};
+ghost use Rattle.cc_connections.specs.Frames.{frame_spelling};
 ghost use Rattle.cc_messages.specs.declared.output.Output.TheVariants as output;
 ghost use Rattle.cc_protocol.specs.Frames.{event_in, output_frame, refusing, refusal_frame, skip_spelling, due_spelling};
 
 use crate::withheld::Due;
+use cc_connections::{Frame, encode_frame, encode_post, encode_reply};
 use cc_messages::{Answer, Event, Message, PostRange, Refusal};
-use cc_network::{Frame, encode_frame, encode_post, encode_reply};
 use cc_views::{NoMemory, NodeId};
 use cc_wire::encode_message;
 use std::alloc::Global;

@@ -6,7 +6,7 @@ ghost use Rattle.cc_protocol.specs.Greetings.{is_same_share, counts_alike, is_ot
 ghost use Rattle.cc_protocol.specs.Greetings.{row_first, row_next, row_after, other_run_after, others, with_row, welcomed, greeted, after_greeting, answer_to, is_old_copy};
 ghost use Rattle.cc_protocol.specs.Greetings.{greeter_after, hello_of, unless_old, met, AreRemembered, AreAllRemembered};
 
-use cc_network::{ClusterName, Frame, Hello, Quorum, Reason};
+use cc_connections::{ClusterName, Frame, Hello, Quorum, Reason};
 use cc_views::{NoMemory, NodeId};
 use std::alloc::Global;
 use std::marker::Model;

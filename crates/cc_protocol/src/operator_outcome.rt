@@ -13,8 +13,8 @@ ghost use Rattle.cc_node.specs.Refusals as reason;
 ghost use Rattle.cc_protocol.specs.declared.operator_outcome.Outcome.TheVariants as outcome;
 
 use crate::client::refusal_of;
+use cc_connections::Frame;
 use cc_messages::{Command, Refusal};
-use cc_network::Frame;
 
 /// Why the server of a node doesn't hand a retirement to its node, which would accept it.
 #[derive(Clone, Copy, PartialEq, Eq)]

@@ -5,7 +5,7 @@ ghost use Rattle.std.specs.Io.{ReadsAtMost};
 ghost use Rattle.std.specs.Io.KnownBytes.{ReadConsumes};
 ghost use Rattle.cc_protocol.specs.ReceivedFrames.{ahead, unused, IsUnused, Begins, Grows, Passes, IsRefused, Ends, Next};
 
-use cc_network::{Fed, Frame, FrameReader};
+use cc_connections::{Fed, Frame, FrameReader};
 use cc_views::NoMemory;
 use cc_wire::WireFault;
 use std::alloc::Global;

@@ -4,8 +4,8 @@ ghost use Rattle.std.specs.Prelude.{◌≡◌};
 ghost use Rattle.cc_protocol.specs.Responses.{heed_undelivered, heed_unasked, heed_refused, told_of, told, heed_unstirred, heed_of};
 
 use crate::frames::refused_frame;
+use cc_connections::Frame;
 use cc_messages::{Event, Refusal};
-use cc_network::Frame;
 use cc_views::NodeId;
 
 /// What an answer asks of the worker that brought the event.

@@ -11,8 +11,8 @@ ghost use Rattle.cc_protocol.specs.declared.operator_outcome.Outcome.TheVariants
 
 use crate::client::refusal_of;
 use crate::operator_outcome::Outcome;
+use cc_connections::Frame;
 use cc_messages::Refusal;
-use cc_network::Frame;
 
 /// What a frame that comes back tells of the operator's request for another share. None where it is about something else.
 ///

@@ -1,7 +1,7 @@
 //! What a node is run with.
 
-use cc_network::{Address, Peer};
-use cc_words::{Identity, Speech};
+use cc_command_line::{Identity, Speech};
+use cc_connections::{Address, Peer};
 
 /// What a node is run with.
 #[derive(Drop)]

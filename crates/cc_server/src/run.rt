@@ -10,13 +10,13 @@ use crate::threads::{cut, live};
 use cc_channels::{
     Admission, Durable, Inlets, Listeners, Machine, Notice, Shared, give_notice, millis,
 };
+use cc_connections::{Address, Quorum, Stop};
 use cc_flush::{Back, Failed, Flusher, open_anew};
 use cc_intake::{
     Ends, Finished, Hooked, Hooks, Intake, Lane, Life, OfLife, Queue, Share, Turner, finish, lane,
     start,
 };
 use cc_messages::Event;
-use cc_network::{Address, Quorum, Stop};
 use cc_node::Core;
 use cc_protocol::{Greeter, Recipient, Routes};
 use cc_site::{FileSite, Site};

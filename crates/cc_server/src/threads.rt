@@ -6,10 +6,10 @@ use cc_channels::{
     Admission, Dialler, FarEnd, Inlets, Listeners, Machine, Note, Port, Shared, dial_peer,
     write_notes,
 };
+use cc_connections::{Flag, Stop};
 use cc_flush::Failed;
 use cc_intake::{Hooks, Lane, Life, OfLife, Queue, Turner};
 use cc_messages::Event;
-use cc_network::{Flag, Stop};
 use cc_site::Site;
 use cc_status::Board;
 use cc_threads::{Follower, Watch, flush_all, follow_peers, show_until, tick_until};

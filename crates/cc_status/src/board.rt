@@ -1,7 +1,7 @@
 //! What the flusher lays out for those who look.
 
 use crate::live::{DiskShown, Live, PeerNote, Shown};
-use cc_network::Counted;
+use cc_connections::Counted;
 use std::alloc::Global;
 use std::sync::{Arc, Mutex, Wait};
 

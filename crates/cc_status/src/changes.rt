@@ -7,7 +7,7 @@ use crate::page::Page;
 use crate::rows::rows_of;
 use crate::status::RowStatus;
 use crate::timed::write_within;
-use cc_network::Flag;
+use cc_connections::Flag;
 use cc_views::{NoMemory, View};
 use std::alloc::Global;
 use std::collections::BTreeMap;

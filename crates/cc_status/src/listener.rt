@@ -8,7 +8,7 @@ use crate::page::Page;
 use crate::pages::put_page;
 use crate::request::{Asked, MOST_HEAD, read_request};
 use crate::timed::{read_within, write_within};
-use cc_network::{Flag, Places};
+use cc_connections::{Flag, Places};
 use cc_views::NoMemory;
 use std::alloc::Global;
 use std::net::{Shutdown, TcpListener, TcpStream};

@@ -6,7 +6,7 @@ ghost use Rattle.std.specs.FinMap as table;
 ghost use Rattle.cc_churn.specs.Churn as churn;
 ghost use Rattle.cc_status.specs.Readiness.{says_heard, is_away};
 
-use cc_network::{Address, Counted};
+use cc_connections::{Address, Counted};
 use cc_node::{Core, Node};
 use cc_site::Side;
 use cc_views::{NoMemory, NodeId, Text};

@@ -1,7 +1,7 @@
 //! What was counted.
 
 use crate::status::SyncStatus;
-use cc_network::{SYNC_BOUNDS, SyncCounts};
+use cc_connections::{SYNC_BOUNDS, SyncCounts};
 use cc_views::NoMemory;
 use std::alloc::Global;
 use std::collections::BTreeMap;

@@ -3,8 +3,8 @@
 use crate::live::{Live, PeerNote};
 use crate::status::PeerStatus;
 use crate::wide::Wide;
+use cc_connections::Address;
 use cc_links::LinkRow;
-use cc_network::Address;
 use cc_node::Core;
 use cc_views::{NoMemory, Text};
 use std::alloc::Global;

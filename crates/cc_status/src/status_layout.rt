@@ -12,7 +12,7 @@ use crate::readiness::{Quorum, Readiness, is_ready, put_quorum, put_reason, roun
 use crate::rows::push_rows;
 use crate::status::{Counts, DiskStatus, PostStatus, QuorumStatus, Status, SyncStatus};
 use crate::wide::Wide;
-use cc_network::{BATCH_BOUNDS, COMMANDS, Counted, REFUSALS};
+use cc_connections::{BATCH_BOUNDS, COMMANDS, Counted, REFUSALS};
 use cc_outbox::Outbox;
 use cc_sessions::Sessions;
 use cc_site::Side;

@@ -1,7 +1,7 @@
 //! How long syncs take.
 
+use cc_connections::Gauges;
 use cc_intake::Hooks;
-use cc_network::Gauges;
 use std::sync::atomic::{AtomicU64, Ordering};
 use std::time::Clock;
 

@@ -1,7 +1,7 @@
 //! What is noted of a node as it is opened.
 
 use cc_channels::{Notice, give_notice};
-use cc_network::Peer;
+use cc_connections::Peer;
 use cc_node::Core;
 use log::Log;
 

@@ -1,9 +1,9 @@
 //! The file of the peers, which is read again while a node runs.
 
 use cc_channels::{Dialler, Machine, Notice, ReadText, Shared, dial_peer, give_notice};
-use cc_network::{Address, Peer};
+use cc_command_line::{LineFault, peers_in_lines};
+use cc_connections::{Address, Peer};
 use cc_views::NodeId;
-use cc_words::{LineFault, peers_in_lines};
 use log::Log;
 use std::alloc::Global;
 use std::sync::Wait;

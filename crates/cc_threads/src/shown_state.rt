@@ -3,8 +3,8 @@
 use crate::absent_peers::wait_of;
 use crate::flusher_thread::Watch;
 use cc_channels::{Note, PeerChannel, Shared, Stranger};
+use cc_connections::{BATCH_BOUNDS, Counted};
 use cc_links::LinkRow;
-use cc_network::{BATCH_BOUNDS, Counted};
 use cc_node::{Core, Node};
 use cc_protocol::AskName;
 use cc_site::Side;

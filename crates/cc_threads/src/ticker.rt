@@ -1,7 +1,7 @@
 //! The seconds of a node.
 
 use cc_channels::{Admission, Listeners, Shared, knock, millis, monotonic_millis};
-use cc_network::Stop;
+use cc_connections::Stop;
 use cc_site::Flushed;
 use std::net::{Net, TcpStream};
 use std::sync::Wait;

@@ -1,5 +1,5 @@
 -- What is read as a number is the one that `number_in` says.
---     is_number      what `cc_words` reads
+--     is_number      what `cc_command_line` reads
 --     no_text        bytes that are no UTF-8 are no number
 use Rattle.std.proofs.Common.{◌≡◌, ℕ, ◌<◌, ◌≤◌, ◌^◌, ◌&&◌, List, length, get_or, Bool, true, false, cond, Option, Some, None, refl, sym, ap, ◌∙◌, subst, arith}
 use Rattle.std.specs.Prelude.{MatchOption, IfSome, bytes_eq, nat_lt}
@@ -12,7 +12,7 @@ use Rattle.std.proofs.lemmas.Fmt.{digits_value-decimal, IsAscii-decimal}
 use Rattle.std.proofs.lemmas.Slice.Eq.{bytes_eq-Decides}
 use Rattle.std.proofs.lemmas.Str.{IsUtf8-from_ascii}
 use Rattle.std.proofs.lemmas.Str.Parse.{IsNumeralModel, numerals_by_value, tells_by_index}
-use Rattle.cc_words.specs.Words.{NoNumber}
+use Rattle.cc_command_line.specs.Words.{NoNumber}
 use Rattle.cc_web.specs.Words.{number_in}
 
 abbrev AreDigits : List ℕ → Type 0

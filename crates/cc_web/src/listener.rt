@@ -6,7 +6,7 @@ use crate::line::Line;
 use crate::request::WebSettings;
 use crate::service::WebService;
 use crate::timed_stream::TimedStream;
-use cc_network::{Address, Flag, Places, connect};
+use cc_connections::{Address, Flag, Places, connect};
 use http_server::{Config, Connection};
 use http1::Limits;
 use log::{Log, error, info};

@@ -1,6 +1,6 @@
 //! A socket whose reads and writes are over in time, by the clock: however few bytes move at once, they buy no more time.
 
-use cc_network::Flag;
+use cc_connections::Flag;
 use std::io;
 use std::io::{ErrorKind, Read, Write};
 use std::net::TcpStream;

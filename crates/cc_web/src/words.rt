@@ -4,7 +4,7 @@ ghost use Rattle.std.specs.Prelude.{◌≡◌, ◌==◌};
 ghost use Rattle.std.specs.List.{before_first};
 ghost use Rattle.cc_web.specs.Words.{number_in};
 
-use cc_words::{number, small_number};
+use cc_command_line::{number, small_number};
 
 /// The number below 2^64 whose plain decimal digits these bytes are.
 pub(crate) fn number_in(bytes: &[u8]) -> Option<u64>

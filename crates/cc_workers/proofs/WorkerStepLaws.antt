@@ -12,8 +12,8 @@ use Rattle.cc_messages.specs.declared.event.Event.TheVariants as event
 use Rattle.cc_messages.specs.declared.refusal.Refusal.{Refusal}
 use Rattle.cc_messages.specs.declared.refusal.Refusal.TheVariants as refusal
 use Rattle.cc_intake.specs.Talks.{Answer, Spoke, Talks}
-use Rattle.cc_network.specs.declared.frame.Frame.{Frame}
-use Rattle.cc_network.specs.declared.hello.Hello.{Hello}
+use Rattle.cc_connections.specs.declared.frame.Frame.{Frame}
+use Rattle.cc_connections.specs.declared.hello.Hello.{Hello}
 use Rattle.cc_messages.specs.declared.command.Command.{Command}
 use Rattle.cc_protocol.specs.declared.response.Duty.{Duty}
 use Rattle.cc_protocol.specs.Responses.{heed_of, heed_refused}

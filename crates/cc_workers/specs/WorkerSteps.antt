@@ -9,10 +9,10 @@
 --     Brings              in which order events are answered
 use Rattle.std.specs.Prelude.{◌≡◌, ℕ, ◌++◌, List, [], ◌∷◌, Bool, true, false, Option, Some, None, IfSome, if◌then◌else◌, Ok, Err, ⊤}
 use Rattle.cc_messages.specs.declared.event.Event.{Event}
-use Rattle.cc_network.specs.declared.frame.Frame.{Frame}
-use Rattle.cc_network.specs.declared.frame.Frame.TheVariants as frames
-use Rattle.cc_network.specs.declared.hello.Hello.{Hello}
-use Rattle.cc_network.specs.Frames.{frame_spelling, IsFrame}
+use Rattle.cc_connections.specs.declared.frame.Frame.{Frame}
+use Rattle.cc_connections.specs.declared.frame.Frame.TheVariants as frames
+use Rattle.cc_connections.specs.declared.hello.Hello.{Hello}
+use Rattle.cc_connections.specs.Frames.{frame_spelling, IsFrame}
 use Rattle.cc_intake.specs.Talks.{Answer}
 use Rattle.cc_protocol.specs.declared.response.Duty.{Duty}
 use Rattle.cc_protocol.specs.declared.response.Duty.TheVariants as duty

@@ -11,9 +11,9 @@ use cc_channels::{
     Admission, Admit, HeardNodes, Instruction, NotAdmitted, Notice, Shared, Verdict, bytes_of,
     give_notice,
 };
+use cc_connections::{Frame, Hello};
 use cc_intake::{Accepted, Hooks, Lane, Life, OfLife, Refused, Share, Source};
 use cc_messages::{Event, Refusal};
-use cc_network::{Frame, Hello};
 use cc_ops::Asked;
 use cc_protocol::{
     Duty, Ending, Input, Objection, ReceivedFrames, event_of, objection_frame, objection_to,

@@ -9,8 +9,8 @@ use cc_channels::{
     Connection, NotAdmitted, Port, Shared, TimedInput, Visitor, admit, bound_of, bytes_of,
     connection_over, patience_of, write_out,
 };
+use cc_connections::Hello;
 use cc_intake::{Hooks, Lane, Life, Share};
-use cc_network::Hello;
 use cc_protocol::{Access, Admitted, Ending, answer_to, greeter_after};
 use cc_views::NodeId;
 use log::{Log, debug};

@@ -4,8 +4,8 @@ ghost use Rattle.std.specs.Prelude.{◌≡◌, ◌+◌, List, None};
 ghost use Rattle.cc_intake.specs.Talks.{Answer, IsAnswer, Talks, places_of, PlacesRise};
 
 use cc_channels::{Admission, Connection, ConnectionAdmission, Shared};
+use cc_connections::Address;
 use cc_intake::{Hooks, Intake, Lane, Life, OfLife, Queue, Share, Source, work};
-use cc_network::Address;
 use cc_protocol::Admitted;
 use cc_views::NodeId;
 use std::alloc::Global;

@@ -4,11 +4,11 @@
 
 mod run;
 
+use cc_command_line::{LogLevel, Order, RunWords, parse};
 use cc_commands::{
     BAD_COMMAND_LINE, Lines, NotingRuntime, StandIns, ask, dump, format, leave, load, play_input,
     retire, share, status,
 };
-use cc_words::{LogLevel, Order, RunWords, parse};
 use run::run;
 use std::process::ExitCode;
 

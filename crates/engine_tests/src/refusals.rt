@@ -2,8 +2,8 @@
 
 use cc_checkpoint::OpenFault;
 use cc_flush::{CheckpointFault, Failed, FormatFault};
+use cc_node_state::StateFault;
 use cc_site::{Call, DeviceFault, Side, SiteFault};
-use cc_states::StateFault;
 use cc_wire::WireFault;
 use std::fmt::{Debug, Display};
 use std::process::Abort;

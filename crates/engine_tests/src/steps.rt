@@ -5,8 +5,8 @@ use crate::refusals::unless_failed;
 use cc_checkpoint::OpenFault;
 use cc_flush::{Back, CheckpointFault, Failed, Flusher};
 use cc_node::Node;
+use cc_node_state::encode_state;
 use cc_site::{Choice, MemorySite};
-use cc_states::encode_state;
 use std::alloc::Global;
 use std::process::Abort;
 

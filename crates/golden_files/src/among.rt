@@ -1,7 +1,7 @@
 //! Lines that a script prints among others.
 
 use crate::comparison::rows_in;
-use cc_words::number;
+use cc_command_line::number;
 
 /// The first of these lines, counted from 1, that isn't printed. A line in brackets says something else of what is printed.
 pub fn first_missing(printed: &str, wanted: &str) -> Option<u64> {

@@ -1,6 +1,6 @@
 //! How chapters spell scripts and what they print: lines to choose from, parts that are repeated, and what can't be seen.
 
-use cc_words::number;
+use cc_command_line::number;
 use std::alloc::{AllocError, Global};
 
 /// The text of a template, with that line in the place of each `@`, and with its repeated parts as often as they come.

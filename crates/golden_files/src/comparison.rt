@@ -1,7 +1,7 @@
 //! What a script prints, beside what is written.
 
 use crate::among::first_missing;
-use cc_words::number;
+use cc_command_line::number;
 use std::alloc::{AllocError, Global};
 use std::collections::BTreeMap;
 use std::fmt;

@@ -4,8 +4,8 @@ ghost use Rattle.std.specs.Prelude.{◌≤◌, length};
 
 use crate::formats::check_bytes;
 use crate::refusals::unless_failed;
+use cc_connections::{Frame, FrameReader, decode_frame, encode_frame};
 use cc_messages::Refusal;
-use cc_network::{Frame, FrameReader, decode_frame, encode_frame};
 use cc_wire::WireFault;
 use std::process::Abort;
 

@@ -4,7 +4,7 @@ use crate::formats::check_bytes;
 use crate::frames::frame_bytes;
 use crate::sets::id;
 use cc_changes::Fraction;
-use cc_network::{ClusterName, Frame, Hello, NameFault, Quorum, Reason, decode_frame};
+use cc_connections::{ClusterName, Frame, Hello, NameFault, Quorum, Reason, decode_frame};
 use cc_wire::WireFault;
 use std::process::Abort;
 

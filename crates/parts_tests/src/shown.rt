@@ -4,7 +4,7 @@ use crate::openings::{fresh, opening};
 use crate::sets::id;
 use crate::views::{no_rows, row};
 use cc_changes::Fraction;
-use cc_network::Counted;
+use cc_connections::Counted;
 use cc_node::Opening;
 use cc_site::Side;
 use cc_status::{DiskShown, Live, PeerNote, Shown, rows_of, status_of};

@@ -2,8 +2,8 @@
 
 use crate::ask::{DONE, check_asked, is_asked, is_retired, order, retirement};
 use crate::nodes::{Place, format, free_place, peer, run, while_one_runs, while_two_run};
+use cc_connections::{Address, Stop};
 use cc_intake::NoHooks;
-use cc_network::{Address, Stop};
 use std::alloc::Global;
 use std::net::{Net, TcpListener, TcpStream};
 use std::process::Abort;

@@ -2,10 +2,10 @@
 
 use crate::nodes::free_address;
 use cc_client::{Silence, Told, ask_node, leave_node, retire_node, share_node};
+use cc_command_line::{AnswerForm, AskOrder, LeaveOrder, RetireOrder, ShareOrder, command};
+use cc_connections::Address;
 use cc_messages::Share;
-use cc_network::Address;
 use cc_views::NodeId;
-use cc_words::{AnswerForm, AskOrder, LeaveOrder, RetireOrder, ShareOrder, command};
 use std::alloc::Global;
 use std::io;
 use std::net::{Net, TcpStream};

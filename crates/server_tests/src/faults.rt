@@ -3,9 +3,9 @@
 use crate::nodes::{Setting, config_of, format, free_place, peer};
 use cc_channels::ReadText;
 use cc_checkpoint::OpenFault;
+use cc_connections::{Address, Stop};
 use cc_flush::Failed;
 use cc_intake::NoHooks;
-use cc_network::{Address, Stop};
 use cc_server::{RunFault, run_node};
 use cc_site::{Call, DeviceFault, Side};
 use log::Log;

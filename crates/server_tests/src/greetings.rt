@@ -3,10 +3,10 @@
 use crate::clients::{ends, sent};
 use crate::nodes::{Place, Setting, format, free_place, peer, run_with, while_one_runs};
 use cc_channels::ReadText;
+use cc_command_line::Identity;
+use cc_connections::{Address, ClusterName, Peer, Stop};
 use cc_intake::{Finished, NoHooks};
-use cc_network::{Address, ClusterName, Peer, Stop};
 use cc_server::RunFault;
-use cc_words::Identity;
 use log::Log;
 use std::alloc::Global;
 use std::fs::{File, Files};

@@ -2,7 +2,7 @@
 
 use crate::ask::DONE;
 use cc_client::load_nodes;
-use cc_words::{AnswerForm, LoadOrder, LoadWords};
+use cc_command_line::{AnswerForm, LoadOrder, LoadWords};
 use std::alloc::Global;
 use std::net::{Net, TcpListener, TcpStream};
 use std::process::Abort;

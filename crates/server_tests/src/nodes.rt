@@ -1,12 +1,12 @@
 //! Nodes on loopback.
 
 use cc_channels::ReadText;
+use cc_command_line::{FormatWords, Identity, Speech};
 use cc_commands::{FormatOrder, format_folder};
+use cc_connections::{Address, Peer, Stop};
 use cc_intake::{Finished, Hooks};
-use cc_network::{Address, Peer, Stop};
 use cc_server::{Config, RunFault, run_on};
 use cc_views::NodeId;
-use cc_words::{FormatWords, Identity, Speech};
 use log::Log;
 use std::alloc::{AllocError, Global};
 use std::fs::{File, Files};

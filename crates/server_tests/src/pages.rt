@@ -6,8 +6,8 @@ use crate::clients::{
     FIRST_ASK, FIRST_REPLY, OTHER_ASK, OTHER_REPLY, check_closed, ends, exchange, reads, sent,
 };
 use crate::nodes::{Place, Setting, format, free_address, free_place, run_with, while_one_runs};
+use cc_connections::{Address, Stop};
 use cc_intake::NoHooks;
-use cc_network::{Address, Stop};
 use serde_json::Value;
 use std::io::{Read, Write};
 use std::net::{Net, Shutdown, SocketAddr, TcpStream};

@@ -1,8 +1,8 @@
 //! The file of the peers, which changes while a node runs.
 
 use crate::nodes::{Place, Setting, format, free_place, run_with, while_one_runs};
+use cc_connections::Stop;
 use cc_intake::NoHooks;
-use cc_network::Stop;
 use std::fs;
 use std::fs::{File, Files};
 use std::net::{Net, SocketAddr, TcpListener, TcpStream};

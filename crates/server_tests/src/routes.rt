@@ -3,8 +3,8 @@
 use crate::clients::{FIRST_ASK, FIRST_REPLY, connected, ends, reads};
 use crate::hostile::OUT_OF_TURN;
 use crate::nodes::{Place, format, free_place, peer, run, while_two_run};
+use cc_connections::{Address, Stop};
 use cc_intake::NoHooks;
-use cc_network::{Address, Stop};
 use std::io::{Read, Write};
 use std::net::{Net, Shutdown, SocketAddr, TcpStream};
 use std::process::Abort;

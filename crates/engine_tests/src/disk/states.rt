@@ -7,7 +7,7 @@ use crate::steps::state_of_node;
 use crate::versions::{ENTRANT_STATE, MEMBER_STATE};
 use cc_messages::{Command, Event};
 use cc_node::Node;
-use cc_states::{Layout, StateFault, decode_state};
+use cc_node_state::{Layout, StateFault, decode_state};
 use cc_wire::WireFault;
 use std::process::Abort;
 

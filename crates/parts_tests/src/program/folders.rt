@@ -1,9 +1,9 @@
 //! Folders that are made anew, formatted and told of, and what stands in them.
 
 use crate::program::words::{format_of, with};
+use cc_command_line::{FormatWords, WordFault};
 use cc_commands::{DumpScope, FormatOrder, dump_folder, format_folder};
 use cc_site::{FileSite, NoOutlet};
-use cc_words::{FormatWords, WordFault};
 use std::fs;
 use std::fs::{File, Files, Permissions};
 use std::os::unix::fs::PermissionsExt;

@@ -1,8 +1,8 @@
 //! Loads: their words, and what is printed of what they measure.
 
 use cc_client::{Report, Tally};
+use cc_command_line::{AnswerForm, LoadOrder, LoadWords, WordFault};
 use cc_messages::Refusal;
-use cc_words::{AnswerForm, LoadOrder, LoadWords, WordFault};
 use std::process::Abort;
 
 // Words are made by a call: a constant of them costs more to prove wherever it is named.

@@ -1,7 +1,7 @@
 //! A node's status as a table, out of what it answers over HTTP.
 
 use cc_client::{Status, Table, body_of, reason_of};
-use cc_words::HarmlessJson;
+use cc_command_line::HarmlessJson;
 use serde_json::Value;
 
 // A node that is ready, and one that isn't.

@@ -2,10 +2,10 @@
 
 use crate::program::folders::{check_format, dumped, made, member, remove};
 use crate::program::words::with;
+use cc_command_line::WordFault;
 use cc_commands::{DumpScope, Lost, Trouble, Wrong, node_in_folder};
 use cc_site::{FileSite, NoOutlet};
 use cc_views::NodeId;
-use cc_words::WordFault;
 use std::fs;
 use std::fs::{File, Files};
 use std::process::Abort;

@@ -1,9 +1,9 @@
 //! What is told of words that are no command, of beginnings that no node has, and of those that an operator may not want.
 
 use crate::program::words::{format_of, with};
+use cc_command_line::{AnswerForm, AskOrder, AskWords, CommandFault, FormatWords, WordFault};
 use cc_commands::{BadOpening, FormatOrder, Warning};
 use cc_node::OpeningRule;
-use cc_words::{AnswerForm, AskOrder, AskWords, CommandFault, FormatWords, WordFault};
 use std::process::Abort;
 
 // A command with that value and that text is none, and just this is told of it.

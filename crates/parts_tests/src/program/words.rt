@@ -1,14 +1,14 @@
 //! The words of the command line.
 
 use cc_changes::Fraction;
-use cc_commands::FormatOrder;
-use cc_messages::Command;
-use cc_network::{Address, Host};
-use cc_views::NodeId;
-use cc_words::{
+use cc_command_line::{
     AnswerForm, AskOrder, AskWords, FormatWords, LeaveOrder, LogLevel, RetireOrder, RetireWords,
     RunOrder, RunWords, ShareOrder, Speech, StatusOrder, WordFault,
 };
+use cc_commands::FormatOrder;
+use cc_connections::{Address, Host};
+use cc_messages::Command;
+use cc_views::NodeId;
 use std::net::{IpAddr, Ipv4Addr};
 use std::process::Abort;
 

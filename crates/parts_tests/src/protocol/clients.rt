@@ -1,8 +1,8 @@
 //! A client and what it hears.
 
 use crate::frames::frame_bytes;
+use cc_connections::Frame;
 use cc_messages::{Command, Refusal};
-use cc_network::Frame;
 use cc_protocol::{Client, Heard, Step};
 use cc_views::Text;
 use std::process::Abort;

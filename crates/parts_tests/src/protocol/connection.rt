@@ -1,6 +1,6 @@
 //! Connections to addresses, over a network that is made up.
 
-use cc_network::{Address, ConnectFault, Host, HostName, connect};
+use cc_connections::{Address, ConnectFault, Host, HostName, connect};
 use std::io;
 use std::io::ErrorKind;
 use std::net::{IpAddr, Ipv4Addr, Net, SocketAddr, TcpListener, TcpStream};

@@ -2,7 +2,7 @@
 
 use crate::hellos::{cluster, hello, quorum};
 use crate::sets::id;
-use cc_network::Reason;
+use cc_connections::Reason;
 use cc_protocol::{Greeted, Greetings, Recipient, is_old_copy, why_unwelcome};
 use std::process::Abort;
 

@@ -2,7 +2,7 @@
 
 use crate::formats::check_bytes;
 use crate::hellos::cluster;
-use cc_words::{Identity, IdentityFault, identity_in, identity_text};
+use cc_command_line::{Identity, IdentityFault, identity_in, identity_text};
 
 const FAULTS: [(&str, IdentityFault); 8] = [
     ("", IdentityFault::NoCluster),

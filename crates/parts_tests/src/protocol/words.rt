@@ -1,9 +1,9 @@
 //! The words of commands, addresses and peers.
 
 use crate::sets::id;
+use cc_command_line::{LineFault, address, command, peers, peers_in_lines, store_of};
+use cc_connections::{Address, Host, HostName, Peer};
 use cc_messages::Command;
-use cc_network::{Address, Host, HostName, Peer};
-use cc_words::{LineFault, address, command, peers, peers_in_lines, store_of};
 use std::net::{IpAddr, Ipv4Addr, Ipv6Addr};
 use std::process::Abort;
 

@@ -1,6 +1,6 @@
 //! The listener for clients that speak HTTP, before a node that the test plays.
 
-use cc_network::{Address, Flag};
+use cc_connections::{Address, Flag};
 use cc_web::{Gateway, WebSettings, end_web, serve_web};
 use std::hash::RandomState;
 use std::io::{Read, Write};

@@ -2,7 +2,7 @@ use Rattle.cc_site.specs.Sides.{touch}
 use Rattle.cc_site.specs.Moments.{Within}
 use Rattle.cc_site.specs.Runs.{weaker}
 use Rattle.cc_checkpoint.specs.Checkpoints.{IsGoodForAll}
-use Rattle.cc_states.proofs.TableWrites.{on_ok}
+use Rattle.cc_node_state.proofs.TableWrites.{on_ok}
 use Rattle.cc_checkpoint.proofs.OffRuns.{arming_good, armed_rest}
 use Rattle.cc_checkpoint.proofs.checkpoint.arm.Goals as goal
 

@@ -2,7 +2,7 @@ use Rattle.std.proofs.Common.{◌∙◌, inl, inr, subst, arith}
 use Rattle.std.proofs.lemmas.Result.{IfErr-weaker}
 use Rattle.cc_site.specs.ToldFaults.{CountsCalls}
 use Rattle.cc_checkpoint.specs.Stops.{Fills, ImageStops, FillStops}
-use Rattle.cc_states.proofs.TableWrites.{on_ok}
+use Rattle.cc_node_state.proofs.TableWrites.{on_ok}
 use Rattle.cc_checkpoint.proofs.Ahead.{err_is}
 use Rattle.cc_checkpoint.proofs.BehindRuns.{behind_rests}
 use Rattle.cc_checkpoint.proofs.OffRuns.{then_off}

@@ -1,6 +1,6 @@
 use Rattle.std.proofs.Common.{◌∙◌, arith}
-use Rattle.cc_states.specs.States.{node_spelling}
-use Rattle.cc_states.proofs.TableWrites.{on_ok}
+use Rattle.cc_node_state.specs.States.{node_spelling}
+use Rattle.cc_node_state.proofs.TableWrites.{on_ok}
 use Rattle.cc_checkpoint.proofs.BehindRuns.{then_behind, image_behind}
 use Rattle.cc_checkpoint.proofs.Imaged.{image_laid}
 use Rattle.cc_checkpoint.proofs.PastGate.{image_stops}

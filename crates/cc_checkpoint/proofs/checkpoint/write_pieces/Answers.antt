@@ -1,11 +1,11 @@
 use Rattle.std.proofs.Common.{◌≡◌, ◌≤◌, ◌++◌, inl, List, ℕ, [], length, refl, sym, ap, ◌∙◌, append_assoc, arith}
 use Rattle.std.proofs.lemmas.List.{length-append, append-nil}
 use Rattle.std.proofs.lemmas.Result.{err_from_is_err_and}
-use Rattle.cc_states.specs.States.{layout_of_node, node_spelling}
-use Rattle.cc_states.specs.Parts.{joined}
-use Rattle.cc_states.proofs.PartLaws.{joined_rest}
+use Rattle.cc_node_state.specs.States.{layout_of_node, node_spelling}
+use Rattle.cc_node_state.specs.Parts.{joined}
+use Rattle.cc_node_state.proofs.PartLaws.{joined_rest}
 use Rattle.cc_checkpoint.proofs.PastGate.{half_past, front_kept}
-use Rattle.cc_states.proofs.StateLengths.{length-node}
+use Rattle.cc_node_state.proofs.StateLengths.{length-node}
 use Rattle.cc_checkpoint.proofs.BehindRuns.{started_behind, then_written, grown}
 use Rattle.cc_checkpoint.proofs.checkpoint.write_pieces.Goals as goal
 

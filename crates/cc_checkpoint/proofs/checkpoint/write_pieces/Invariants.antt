@@ -1,8 +1,8 @@
 use Rattle.std.proofs.Common.{◌≡◌, ◌≤◌, ◌+◌, ◌++◌, length}
 use Rattle.std.specs.Prelude.{◌↔◌}
 use Rattle.cc_site.specs.Sides.{other}
-use Rattle.cc_states.specs.States.{node_spelling}
-use Rattle.cc_states.specs.Parts.{joined}
+use Rattle.cc_node_state.specs.States.{node_spelling}
+use Rattle.cc_node_state.specs.Parts.{joined}
 use Rattle.cc_checkpoint.specs.Checkpoints.{StaysBehind}
 use Rattle.cc_checkpoint.proofs.checkpoint.write_pieces.Given as goal
 

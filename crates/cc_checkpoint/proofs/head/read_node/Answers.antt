@@ -2,8 +2,8 @@ use Rattle.std.proofs.Common.{◌≡◌, ℕ, List, take, drop, Ok, subst, sym, 
 use Rattle.std.proofs.lemmas.Result.{err_from_is_err_and}
 use Rattle.cc_wire.specs.Readers.{whole}
 use Rattle.cc_wire.proofs.Spelled.{IsBytes-take, IsBytes-drop}
-use Rattle.cc_states.specs.States.{state_at}
-use Rattle.cc_states.specs.Fields.{state_in}
+use Rattle.cc_node_state.specs.States.{state_at}
+use Rattle.cc_node_state.specs.Fields.{state_in}
 use Rattle.cc_checkpoint.specs.Heads.{NodeFound}
 use Rattle.cc_checkpoint.specs.Windows.{Misses, CountsRead}
 use Rattle.cc_checkpoint.proofs.StateReads.{ahead_all, missing_node, restored, still_counts}

@@ -1,7 +1,7 @@
 use Rattle.std.proofs.Common.{refl, sym, inl, inr, ◌∙◌, ap, arith}
 use Rattle.cc_site.specs.declared.site.Call.TheVariants.{Read}
 use Rattle.cc_site.specs.Reads.{reads_then}
-use Rattle.cc_states.specs.Layouts.{layout_of}
+use Rattle.cc_node_state.specs.Layouts.{layout_of}
 use Rattle.cc_checkpoint.proofs.Ahead.{err_is}
 use Rattle.cc_checkpoint.proofs.StateReads.{looked, read_there, at_version, version_there, size_read, state_there}
 use Rattle.cc_checkpoint.proofs.head.state_size.Goals as goal

@@ -1,7 +1,7 @@
 use Rattle.std.proofs.Common.{◌<◌, ◌^◌, List, ℕ, length, arith}
 use Rattle.cc_node.specs.Node.{Node}
-use Rattle.cc_states.specs.States.{SpellsNode, layout_of_node}
-use Rattle.cc_states.proofs.StateLengths.{length-node}
+use Rattle.cc_node_state.specs.States.{SpellsNode, layout_of_node}
+use Rattle.cc_node_state.proofs.StateLengths.{length-node}
 use Rattle.cc_checkpoint.proofs.Imaged.{image_spelled}
 use Rattle.cc_checkpoint.proofs.image.encode_image.Goals as goal
 

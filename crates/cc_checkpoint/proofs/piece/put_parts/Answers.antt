@@ -1,7 +1,7 @@
 use Rattle.std.proofs.Common.{◌≡◌, ◌<◌, ◌++◌, [], get_or, length, ap, arith}
 use Rattle.std.proofs.lemmas.List.{length-append}
-use Rattle.cc_states.specs.Parts.{parts_of}
-use Rattle.cc_states.proofs.PartLaws.{one_part_more}
+use Rattle.cc_node_state.specs.Parts.{parts_of}
+use Rattle.cc_node_state.proofs.PartLaws.{one_part_more}
 use Rattle.cc_checkpoint.proofs.piece.put_parts.Goals as goal
 
 pub loop-at-preserved : goal.loop-at-preserved

@@ -1,6 +1,6 @@
 use Rattle.std.proofs.Common.{ℕ, List, ◌≡◌, ◌≤◌, ◌<◌, ◌-◌, ◌++◌, length, drop}
 use Rattle.std.specs.Vec.{vec_capacity}
-use Rattle.cc_states.specs.Parts.{parts_of, joined, piece_limit}
+use Rattle.cc_node_state.specs.Parts.{parts_of, joined, piece_limit}
 use Rattle.cc_checkpoint.proofs.piece.put_parts.Given as goal
 
 abbrev pub invariant-loop-at : goal.invariant-loop-at

@@ -1,7 +1,7 @@
 use Rattle.std.proofs.Common.{◌<◌, [], get_or, take, ap, arith, length}
 use Rattle.std.proofs.lemmas.List.{length-append, take_all}
-use Rattle.cc_states.specs.Parts.{parts_of, joined}
-use Rattle.cc_states.proofs.PartLaws.{parts_spell, joined_more}
+use Rattle.cc_node_state.specs.Parts.{parts_of, joined}
+use Rattle.cc_node_state.proofs.PartLaws.{parts_spell, joined_more}
 use Rattle.cc_checkpoint.proofs.pieces.state_length.Goals as goal
 
 pub loop-at-preserved : goal.loop-at-preserved

@@ -1,5 +1,5 @@
 use Rattle.std.proofs.Common.{◌≡◌, ◌≤◌, ◌*◌, length, take}
-use Rattle.cc_states.specs.Parts.{parts_of, joined}
+use Rattle.cc_node_state.specs.Parts.{parts_of, joined}
 use Rattle.cc_checkpoint.proofs.pieces.state_length.Given as goal
 
 abbrev pub invariant-loop-at : goal.invariant-loop-at

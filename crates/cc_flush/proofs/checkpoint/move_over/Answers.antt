@@ -1,7 +1,7 @@
 use Rattle.std.proofs.Common.{◌≡◌, ◌+◌, length, refl, ap, arith}
 use Rattle.std.proofs.lemmas.Result.{err_from_is_err_and}
-use Rattle.cc_states.specs.Layouts.{version_of}
-use Rattle.cc_states.specs.States.{layout_of_node, node_spelling}
+use Rattle.cc_node_state.specs.Layouts.{version_of}
+use Rattle.cc_node_state.specs.States.{layout_of_node, node_spelling}
 use Rattle.cc_flush.specs.Engine.{IsSettled}
 use Rattle.cc_checkpoint.specs.Checkpoints.{image_of}
 use Rattle.cc_checkpoint.proofs.Imaged.{length-image}

@@ -1,4 +1,4 @@
-use Rattle.cc_states.specs.GoodLaws.{good_for_more}
+use Rattle.cc_node_state.specs.GoodLaws.{good_for_more}
 use Rattle.cc_flush.proofs.laws.good_for_more.Goals as goal
 
 pub returns : goal.returns

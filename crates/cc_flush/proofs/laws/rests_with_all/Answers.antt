@@ -1,4 +1,4 @@
-use Rattle.cc_states.specs.GoodLaws.{at_rest_is}
+use Rattle.cc_node_state.specs.GoodLaws.{at_rest_is}
 use Rattle.cc_flush.proofs.laws.rests_with_all.Goals as goal
 
 pub returns : goal.returns

@@ -1,4 +1,4 @@
-use Rattle.cc_states.specs.GoodLaws.{shut_side, good_other_way}
+use Rattle.cc_node_state.specs.GoodLaws.{shut_side, good_other_way}
 use Rattle.cc_flush.proofs.laws.shut_side.Goals as goal
 
 pub returns-clause-first : goal.returns-clause-first

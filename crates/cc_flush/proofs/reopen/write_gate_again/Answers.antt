@@ -2,7 +2,7 @@ use Rattle.std.proofs.Common.{subst, ◌≡◌, [], ◌∷◌}
 use Rattle.std.proofs.lemmas.Result.{on_ok_weaker}
 use Rattle.cc_site.specs.declared.site.Side.{Side}
 use Rattle.cc_site.specs.Sides.{touch, other, settled, written}
-use Rattle.cc_states.specs.Sides.{OPEN}
+use Rattle.cc_node_state.specs.Sides.{OPEN}
 use Rattle.cc_site.specs.Moments.{Within}
 use Rattle.cc_site.specs.Runs.{EachMoment}
 use Rattle.cc_flush.proofs.RearmedSides.{sync_stays, gate_stays}

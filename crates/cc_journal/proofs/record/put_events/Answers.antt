@@ -4,7 +4,7 @@ use Rattle.std.specs.List.{AllByRecursion}
 use Rattle.std.specs.Vec.{vec_capacity}
 use Rattle.std.proofs.lemmas.List.{append_assoc, append-nil, drop_all}
 use Rattle.cc_wire.specs.Events.{IsEvent, event_spelling}
-use Rattle.cc_states.specs.Sides.{sized_spelling}
+use Rattle.cc_node_state.specs.Sides.{sized_spelling}
 use Rattle.cc_journal.specs.declared.entry.Entry.{Entry}
 use Rattle.cc_journal.specs.Batches.{events_in}
 use Rattle.cc_journal.proofs.Records.{sized, length_sized, next_events, next_sized}

@@ -1,6 +1,6 @@
 use Rattle.std.proofs.Common.{◌≡◌, ℕ, List, [], ◌∷◌, ◌++◌, length, ◌∙◌, ap}
 use Rattle.std.specs.Int.{w32, to_be_bytes}
-use Rattle.cc_states.specs.Sides.{events_spelling}
+use Rattle.cc_node_state.specs.Sides.{events_spelling}
 use Rattle.cc_journal.specs.Batches.{events_in}
 use Rattle.cc_journal.proofs.Records.{sized, record_is}
 use Rattle.cc_journal.proofs.record.put_record.Goals as goal

@@ -1,7 +1,7 @@
 use Rattle.std.proofs.Common.{subst}
 use Rattle.cc_site.specs.declared.site.Side.TheVariants.{A, B}
 use Rattle.cc_node.specs.Node.{after}
-use Rattle.cc_states.specs.Good.{IsGoodAt}
+use Rattle.cc_node_state.specs.Good.{IsGoodAt}
 use Rattle.cc_laws.proofs.FirstLives.{all_stand, leaves_all, rests_good_now}
 use Rattle.cc_laws.proofs.lives.crashes_end_lives.Goals as goal
 

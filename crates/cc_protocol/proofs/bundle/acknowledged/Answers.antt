@@ -1,6 +1,6 @@
 use Rattle.std.proofs.Common.{◌++◌, ap, ◌∙◌}
-use Rattle.cc_network.specs.declared.frame.Frame.{Frame}
-use Rattle.cc_network.specs.Frames.{frame_spelling}
+use Rattle.cc_connections.specs.declared.frame.Frame.{Frame}
+use Rattle.cc_connections.specs.Frames.{frame_spelling}
 use Rattle.cc_protocol.proofs.bundle.acknowledged.Goals as goal
 
 pub returns-in-Ok : goal.returns-in-Ok

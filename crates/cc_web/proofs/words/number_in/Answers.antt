@@ -1,7 +1,7 @@
 use Rattle.std.proofs.Common.{◌≡◌, ℕ, ◌<◌, ◌^◌, List, subst, rules, arith}
 use Rattle.std.specs.Prelude.{MatchOption, IfSome}
 use Rattle.std.specs.Fmt.{decimal}
-use Rattle.cc_words.specs.Words.{NoNumber}
+use Rattle.cc_command_line.specs.Words.{NoNumber}
 use Rattle.cc_web.proofs.Numbers.{is_number, no_text}
 use Rattle.cc_web.proofs.words.number_in.Goals as goal
 

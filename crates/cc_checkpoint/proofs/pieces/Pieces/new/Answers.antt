@@ -1,4 +1,4 @@
-use Rattle.cc_states.proofs.PartLaws.{parts_spell}
+use Rattle.cc_node_state.proofs.PartLaws.{parts_spell}
 use Rattle.cc_checkpoint.proofs.pieces.Pieces.new.Goals as goal
 
 pub returns-clause-whole : goal.returns-clause-whole

@@ -1,6 +1,6 @@
 use Rattle.std.proofs.Common.{◌≤◌, ◌+◌, ◌∙◌, [], length, refl, sym, ap, subst}
 use Rattle.cc_site.specs.Sides.{other}
-use Rattle.cc_states.specs.Fronts.{holds_within}
+use Rattle.cc_node_state.specs.Fronts.{holds_within}
 use Rattle.cc_flush.proofs.FoundSides.{are_settled}
 use Rattle.cc_flush.proofs.KeptSides.{good_now, rests_there}
 use Rattle.cc_flush.proofs.flusher.Flusher.open.Goals as goal

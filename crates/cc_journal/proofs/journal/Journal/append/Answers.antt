@@ -1,7 +1,7 @@
 use Rattle.std.proofs.Common.{ℕ, ◌≡◌, ◌≤◌, ◌+◌, [], ◌∷◌, ◌++◌, length, inl, inr, sym, subst, ap, ◌∙◌, arith}
 use Rattle.std.specs.Prelude.{Result, Ok, Err, OnErr}
 use Rattle.cc_site.specs.Sides.{written, settled, MayHaveWritten}
-use Rattle.cc_states.specs.Sides.{OPEN, StandsBehind, SpellsBatch}
+use Rattle.cc_node_state.specs.Sides.{OPEN, StandsBehind, SpellsBatch}
 use Rattle.cc_journal.specs.Batches.{events_in, batch_bytes}
 use Rattle.cc_journal.specs.Journals.{with_open_gate, record_room, KeepsGood, MayHaveOpened, RestsFor, RestsNow}
 use Rattle.cc_journal.specs.contracts.journal.Journal.{the_view}

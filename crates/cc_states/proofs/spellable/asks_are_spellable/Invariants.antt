@@ -1,7 +1,0 @@
-use Rattle.std.proofs.Common.{take}
-use Rattle.std.specs.List.{AllByRecursion}
-use Rattle.cc_states.specs.States.{IsAsk}
-use Rattle.cc_states.proofs.spellable.asks_are_spellable.Given as goal
-
-abbrev pub invariant-loop-asked : goal.invariant-loop-asked
-invariant-loop-asked l = AllByRecursion IsAsk (take l.asked-index l.asks)

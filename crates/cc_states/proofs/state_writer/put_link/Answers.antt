@@ -1,7 +1,0 @@
-use Rattle.cc_wire.proofs.Writes.{writes_then}
-use Rattle.cc_states.proofs.state_writer.put_link.Goals as goal
-
-pub returns : goal.returns
-returns c =
-    writes_then _ _ _ _ _ _ c.in_ok-put_id.ensures.writes
-    (writes_then _ _ _ _ _ _ c.in_ok-put_u64.ensures (writes_then _ _ _ _ _ _ c.in_ok-put_u64-2.ensures c.put_u64-3.ensures))

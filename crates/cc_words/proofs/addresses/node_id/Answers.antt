@@ -1,6 +1,0 @@
-use Rattle.std.proofs.Common.{rules}
-use Rattle.cc_words.proofs.AddressWords.{id_of}
-use Rattle.cc_words.proofs.addresses.node_id.Goals as goal
-
-pub returns : goal.returns
-returns c = id_of c.args.word.now c.in_ok-small_number.field-0 c.new.result c.in_ok-small_number.ensures (search rules) c.new.ensures.some c.new.ensures.id

@@ -1,5 +1,0 @@
-use Rattle.cc_words.proofs.SaidLines.{lines_are_list}
-use Rattle.cc_words.proofs.peer_lines.lines_are_a_list.Goals as goal
-
-pub returns : goal.returns
-returns c = lines_are_list

@@ -1,7 +1,0 @@
-use Rattle.std.proofs.Common.{map, take}
-use Rattle.cc_words.specs.Addresses.{ArePeers}
-use Rattle.cc_words.specs.PeerLines.{said_on}
-use Rattle.cc_words.proofs.peer_lines.peers_on.Given as goal
-
-abbrev pub invariant-loop-i : goal.invariant-loop-i
-invariant-loop-i l = ArePeers (said_on (map (λ w. w.now) (take l.i l.lines))) l.peers.items
