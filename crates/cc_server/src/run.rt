@@ -7,6 +7,7 @@ ghost use Rattle.cc_intake.specs.Intakes.{share_limit};
 use crate::config::Config;
 use crate::run_fault::RunFault;
 use crate::threads::{cut, live};
+use crate::worker_calls::WorkerCalls;
 use cc_channels::{
     Admission, Durable, Inlets, Listeners, Machine, Notice, Shared, give_notice, millis,
 };
@@ -21,7 +22,7 @@ use cc_node::Core;
 use cc_protocol::{Greeter, Recipient, Routes};
 use cc_site::{FileSite, Site};
 use cc_status::Board;
-use cc_threads::{Measured, ServerOutlet, note_opened};
+use cc_threads::{CountedTurner, Measured, ServerOutlet, Turns, note_opened};
 use cc_views::{NoMemory, NodeId};
 use cc_workers::Context;
 use log::{Log, error, info};
@@ -157,7 +158,7 @@ where
 }
 
 // Opens the node that stands on a site, and runs it.
-fn run_on_site<R, H: Hooks + Sync, S: Site + Drop>(
+fn run_on_site<R, H: Hooks + Sync, S: Site + Drop + Send>(
     run: &Run<'_, R, H>,
     site: S,
     listener: Option<TcpListener>,
@@ -181,7 +182,7 @@ where
 }
 
 // Runs a node whose folder is open.
-fn run_opened<R, H: Hooks + Sync, S: Site + Drop>(
+fn run_opened<R, H: Hooks + Sync, S: Site + Drop + Send>(
     run: &Run<'_, R, H>,
     listener: Option<TcpListener>,
     inlets: Inlets,
@@ -371,7 +372,7 @@ fn place_of(listener: &TcpListener) -> Option<Address> {
 }
 
 // Lives the life that begins with the node that was opened. Its premises are those of `start`.
-fn run_as<L: Life + Send + Sync, S: Site + Drop, R, H: Hooks + Sync>(
+fn run_as<L: Life + Send + Sync, S: Site + Drop + Send, R, H: Hooks + Sync>(
     run: &Run<'_, R, H>,
     ready: Ready<S>,
     blank: Blank,
@@ -394,7 +395,7 @@ where
     run_at::<L, Brand, S, R, H>(run, ready, blank, ends)
 }
 
-fn run_at<L: Life + Send + Sync, Q: Lane + Send + Sync, S: Site + Drop, R, H: Hooks + Sync>(
+fn run_at<L: Life + Send + Sync, Q: Lane + Send + Sync, S: Site + Drop + Send, R, H: Hooks + Sync>(
     run: &Run<'_, R, H>,
     ready: Ready<S>,
     blank: Blank,
@@ -440,10 +441,13 @@ struct Begun<S: Site, L: Life, Q: Lane> {
 }
 
 // From here on the count 0 alone is known as durable; each later one comes from a turn.
-fn run_begun<L: Life + Send + Sync, Q: Lane + Send + Sync, S: Site + Drop, R, H: Hooks + Sync>(
-    run: &Run<'_, R, H>,
-    begun: Begun<S, L, Q>,
-) -> Result<Finished<()>, RunFault>
+fn run_begun<
+    L: Life + Send + Sync,
+    Q: Lane + Send + Sync,
+    S: Site + Drop + Send,
+    R,
+    H: Hooks + Sync,
+>(run: &Run<'_, R, H>, begun: Begun<S, L, Q>) -> Result<Finished<()>, RunFault>
 where
     R: Machine,
     requires none { L.flushed 0 }
@@ -462,7 +466,13 @@ where
     outcome
 }
 
-fn run_admitted<L: Life + Send + Sync, Q: Lane + Send + Sync, S: Site + Drop, R, H: Hooks + Sync>(
+fn run_admitted<
+    L: Life + Send + Sync,
+    Q: Lane + Send + Sync,
+    S: Site + Drop + Send,
+    R,
+    H: Hooks + Sync,
+>(
     run: &Run<'_, R, H>,
     begun: Begun<S, L, Q>,
     shares: Vec<Share<L>>,
@@ -473,14 +483,27 @@ where
 {
     let Begun {
         intake,
-        mut turner,
+        turner,
         queue,
         listeners,
         inlets,
     } = begun;
-    let me = turner.engine().twin().core().me();
+    let counted = CountedTurner::new(turner);
+    let me = counted.me();
+    let engine = Mutex::new(counted);
     let lock = Mutex::new(intake);
     let shares = Mutex::new(shares);
+    let turns = Turns {
+        rt: run.rt,
+        engine: &engine,
+        queue: &queue,
+        admission,
+        shared: run.shared,
+    };
+    let calls = WorkerCalls {
+        hooks: run.hooks,
+        turns: &turns,
+    };
     let context = Context {
         rt: run.rt,
         alloc: run.alloc,
@@ -489,7 +512,7 @@ where
         listen: run.config.listen,
         listen_clients: run.config.listen_clients,
         peers_file: run.config.peers_file,
-        hooks: run.hooks,
+        turns: &calls,
         remote_operators: run.config.remote_operators,
         shared: run.shared,
         admission,
@@ -498,13 +521,13 @@ where
         shares: &shares,
     };
     let (watch, far_ends) = cut(inlets, run.alloc, run.shared, run.board.as_ref());
-    let outcome = live(&context, &mut turner, watch, far_ends, &listeners, run.stop);
+    let outcome = live(&context, &turns, watch, far_ends, &listeners, run.stop);
     drop(listeners);
     let finished = finish(
         run.rt,
         lock.into_inner(),
         shares.into_inner(),
-        turner,
+        engine.into_inner().turner,
         queue,
     );
     came_to(without_site(finished), outcome)
