@@ -8,7 +8,8 @@ prints into the file. In each of the seven ways of closing a node is killed KILL
 stores, after 200 answers each time, and opened again by `dump` and `run`: the number and the text of the last answered
 store have to be there, or those of the one under way, and `format` has to refuse the folder. A node whose files can't grow
 has to end and leave them as well. The other commands run in the same ways, and may change no file but as they do with
-open streams. The status is 1 where something isn't so.
+open streams. `run` writes the node anew at each start, so there the node has to stay the same. The status is 1 where
+something isn't so.
 """
 import itertools
 import random
@@ -21,8 +22,8 @@ import threading
 from nodes import LOOPBACK, Cluster, NoAnswer, Session, Verdicts, end_on_signals, say
 
 STORES = 200
-# How many blocks of 512 bytes a file has on a disk that is full.
-BLOCKS = 64
+# How many blocks of 512 bytes a file has on a disk that is full: two strides of the zeros that go ahead of the records.
+BLOCKS = 1_024
 NAMES = {0: "input", 1: "output", 2: "error"}
 WAYS = [way for count in (1, 2, 3) for way in itertools.combinations(NAMES, count)]
 FILES = ("lock", "side-a", "side-b")
@@ -151,14 +152,23 @@ def played(cluster, way=()):
         return cluster.does(["play"], way, lines)[0]
 
 
+def dumped(cluster):
+    """The node of the folder, as `dump` prints it."""
+    return cluster.does(["dump", "node-1"])
+
+
 def commands_on_folders(program, way):
-    """The statuses of commands that change no file of a folder that is formatted, and of `format` on an empty one."""
+    """The statuses of commands that leave a folder that is formatted as it was, or at least its node, and of `format` on an
+    empty one."""
     formatting, statuses = ["1", "--initial", "1"], []
+    kept = ((["format", "node-1", *formatting], contents), (["dump", "node-1"], contents), (None, dumped))
     with Cluster(program, 1) as cluster, socket.create_server((LOOPBACK, cluster.ports[1])):
-        for words in (["format", "node-1", *formatting], ["dump", "node-1"], cluster.run_words(1)):
-            wanted, before = cluster.does(words)[0], contents(cluster)
+        for words, found in kept:
+            words = words or cluster.run_words(1)
+            wanted, before = cluster.does(words)[0], found(cluster)
             statuses.append(check_status(cluster.does(words, way)[0], wanted, 1 in way, words[0]))
-            check(contents(cluster) == before, f"{words[0]} changes a file")
+            check(found(cluster) == before, f"{words[0]} changes what the folder holds")
+            check_files(cluster)
         statuses.append(check_status(played(cluster, way), played(cluster), {0, 1} & set(way), "play"))
         for name in ("open", "closed"):
             (cluster.folder / name).mkdir()

@@ -67,15 +67,15 @@ pub struct Caller<'a, R: Wait, T: TakeTurn, I: Input, S: Admit, D: Replies, F: F
     done: Done,
 }
 
-impl<R: Wait + Log, T: TakeTurn, I: Input, S: Admit, D: Replies, F: Flushed> Caller<
-    '_,
-    R,
-    T,
-    I,
-    S,
-    D,
-    F,
-> {
+impl<R, T, I, S, D, F> Caller<'_, R, T, I, S, D, F>
+where
+    R: Wait + Log,
+    T: TakeTurn,
+    I: Input,
+    S: Admit,
+    D: Replies,
+    F: Flushed,
+{
     // The event that comes next, or why none does.
     fn event(&mut self) -> Result<Event, Done>
         ensures comes { MatchResult result
@@ -272,8 +272,15 @@ impl<R: Wait + Log, T: TakeTurn, I: Input, S: Admit, D: Replies, F: Flushed> Cal
     }
 }
 
-impl<R: Wait + Log, T: TakeTurn, I: Input, S: Admit, D: Replies, F: Flushed> Source
-    for Caller<'_, R, T, I, S, D, F> {
+impl<R, T, I, S, D, F> Source for Caller<'_, R, T, I, S, D, F>
+where
+    R: Wait + Log,
+    T: TakeTurn,
+    I: Input,
+    S: Admit,
+    D: Replies,
+    F: Flushed,
+{
     ghost use Rattle.cc_workers.specs.WorkerSteps.{Gives, Hears};
 
     ghost gives = { λ s e t. Gives I.may_fail S.may_turn_away
