@@ -24,7 +24,7 @@ use cc_site::{FileSite, Site};
 use cc_status::Board;
 use cc_threads::{CountedTurner, Measured, ServerOutlet, Turns, note_opened};
 use cc_views::{NoMemory, NodeId};
-use cc_workers::Context;
+use cc_workers::{Context, TakeTurn};
 use log::{Log, error, info};
 use std::alloc::Global;
 use std::fs::{File, Files};
@@ -461,22 +461,23 @@ where
         return Err(RunFault::NoMemory);
     };
     admission.turned(run.rt, 0, Durable::new(0), begun.turner.engine().twin());
-    let outcome = run_admitted(run, begun, shares, &admission);
+    let outcome = run_admitted(&*run, begun, shares, &admission);
     drop(admission);
     outcome
 }
 
 fn run_admitted<
+    'a,
     L: Life + Send + Sync,
     Q: Lane + Send + Sync,
     S: Site + Drop + Send,
     R,
     H: Hooks + Sync,
 >(
-    run: &Run<'_, R, H>,
+    run: &'a Run<'a, R, H>,
     begun: Begun<S, L, Q>,
     shares: Vec<Share<L>>,
-    admission: &Admission<OfLife<L>>,
+    admission: &'a Admission<OfLife<L>>,
 ) -> Result<Finished<()>, RunFault>
 where
     R: Machine,
@@ -488,40 +489,18 @@ where
         listeners,
         inlets,
     } = begun;
-    let counted = CountedTurner::new(turner);
-    let me = counted.me();
-    let engine = Mutex::new(counted);
+    let engine = Mutex::new(CountedTurner::new(turner));
     let lock = Mutex::new(intake);
     let shares = Mutex::new(shares);
-    let turns = Turns {
-        rt: run.rt,
+    let locked = Locked {
         engine: &engine,
-        queue: &queue,
-        admission,
-        shared: run.shared,
-    };
-    let calls = WorkerCalls {
-        hooks: run.hooks,
-        turns: &turns,
-    };
-    let context = Context {
-        rt: run.rt,
-        alloc: run.alloc,
-        me,
-        dir: run.config.dir,
-        listen: run.config.listen,
-        listen_clients: run.config.listen_clients,
-        peers_file: run.config.peers_file,
-        turns: &calls,
-        remote_operators: run.config.remote_operators,
-        shared: run.shared,
-        admission,
         lock: &lock,
-        queue: &queue,
         shares: &shares,
+        queue: &queue,
+        admission: &*admission,
+        listeners: &listeners,
     };
-    let (watch, far_ends) = cut(inlets, run.alloc, run.shared, run.board.as_ref());
-    let outcome = live(&context, &turns, watch, far_ends, &listeners, run.stop);
+    let outcome = run_locked(&*run, locked, inlets);
     drop(listeners);
     let finished = finish(
         run.rt,
@@ -531,6 +510,83 @@ where
         queue,
     );
     came_to(without_site(finished), outcome)
+}
+
+// What the threads of a life share.
+#[derive(Drop)]
+struct Locked<'x, S: Site, L: Life, Q: Lane> {
+    engine: &'x Mutex<CountedTurner<S, L, Q>>,
+    lock: &'x Mutex<Intake<L, Q>>,
+    shares: &'x Mutex<Vec<Share<L>>>,
+    queue: &'x Queue<L, Q>,
+    admission: &'x Admission<OfLife<L>>,
+    listeners: &'x Listeners,
+}
+
+// Lets flusher and workers take turns.
+fn run_locked<
+    'x,
+    L: Life + Send + Sync,
+    Q: Lane + Send + Sync,
+    S: Site + Drop + Send,
+    R,
+    H: Hooks + Sync,
+>(run: &'x Run<'x, R, H>, locked: Locked<'x, S, L, Q>, inlets: Inlets) -> Option<Result<(), Failed>>
+where
+    R: Machine,
+{
+    let turns = Turns {
+        rt: run.rt,
+        engine: locked.engine,
+        queue: locked.queue,
+        admission: locked.admission,
+        shared: run.shared,
+    };
+    let calls = WorkerCalls {
+        hooks: run.hooks,
+        turns: &turns,
+    };
+    serve(run, &locked, &turns, &calls, inlets)
+}
+
+// Starts the threads, with these calls for the workers.
+fn serve<
+    'x,
+    L: Life + Send + Sync,
+    Q: Lane + Send + Sync,
+    S: Site + Drop + Send,
+    R,
+    H,
+    T: TakeTurn + Sync,
+>(
+    run: &'x Run<'x, R, H>,
+    locked: &'x Locked<'x, S, L, Q>,
+    turns: &'x Turns<'x, S, L, Q, R>,
+    calls: &'x T,
+    inlets: Inlets,
+) -> Option<Result<(), Failed>>
+where
+    R: Machine,
+{
+    let me = locked.engine.lock(run.rt).me();
+    let context = Context {
+        rt: run.rt,
+        alloc: run.alloc,
+        me,
+        dir: run.config.dir,
+        listen: run.config.listen,
+        listen_clients: run.config.listen_clients,
+        peers_file: run.config.peers_file,
+        turns: calls,
+        remote_operators: run.config.remote_operators,
+        shared: run.shared,
+        admission: locked.admission,
+        lock: locked.lock,
+        queue: locked.queue,
+        shares: locked.shares,
+    };
+    let (watch, ends) = cut(inlets, run.alloc, run.shared, run.board.as_ref());
+    live(&context, turns, watch, ends, locked.listeners, run.stop)
 }
 
 // What a run came to, unless it failed.

@@ -57,9 +57,9 @@ pub fn cut<'x>(
 
 /// Starts the ticker and what serves, flushes in this thread until all is done, and ends them. None where a thread can't be
 /// made.
-pub fn live<'x, L: Life + Send + Sync, Q: Lane + Send + Sync, S: Site, R, T: TakeTurn + Sync>(
+pub fn live<'x, 't, L: Life + Send + Sync, Q: Lane + Send + Sync, S: Site, R, T: TakeTurn + Sync>(
     context: &'x Context<'x, R, T, L, Q>,
-    turns: &'x Turns<'x, S, L, Q, R>,
+    turns: &'x Turns<'t, S, L, Q, R>,
     watch: Watch<'x>,
     ends: FarEnds,
     listeners: &'x Listeners,

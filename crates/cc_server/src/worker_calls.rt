@@ -8,12 +8,13 @@ use std::sync::Wait;
 
 /// The hooks of whoever runs the node, and turns of its engine.
 #[derive(Drop)]
-pub struct WorkerCalls<'x, S: Site, L: Life, Q: Lane, R: Wait, H: Hooks> {
-    pub hooks: &'x H,
-    pub turns: &'x Turns<'x, S, L, Q, R>,
+pub struct WorkerCalls<'h, 't, 'x, S: Site, L: Life, Q: Lane, R: Wait, H: Hooks> {
+    pub hooks: &'h H,
+    pub turns: &'x Turns<'t, S, L, Q, R>,
 }
 
-impl<S: Site, L: Life, Q: Lane, R: Wait, H: Hooks> Hooks for WorkerCalls<'_, S, L, Q, R, H> {
+impl<S: Site, L: Life, Q: Lane, R: Wait, H: Hooks> Hooks
+    for WorkerCalls<'_, '_, '_, S, L, Q, R, H> {
     fn before_accept(&self) {
         self.hooks.before_accept();
     }
@@ -31,7 +32,8 @@ impl<S: Site, L: Life, Q: Lane, R: Wait, H: Hooks> Hooks for WorkerCalls<'_, S, 
     }
 }
 
-impl<S: Site, L: Life, Q: Lane, R: Wait, H: Hooks> TakeTurn for WorkerCalls<'_, S, L, Q, R, H> {
+impl<S: Site, L: Life, Q: Lane, R: Wait, H: Hooks> TakeTurn
+    for WorkerCalls<'_, '_, '_, S, L, Q, R, H> {
     fn take_turn(&self) {
         self.turns.take();
     }
