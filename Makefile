@@ -3,7 +3,7 @@
     cluster load kill-cluster soak soak-absent hostile closed-streams dead-member refused-flood stray-frames many-sessions \
     stale-collects costs worked-rows trusted links beside look look-picture hostile-status mistakes deb test-systemd \
     tls-cluster clients page-bytes one-session half-close idle-cluster power-cut slow-readers full-pipe operator-places many-nodes \
-    upgrade chain gone-words first-store snapshots partial-writes wrong-places mutated-hellos http-clients turns hops
+    upgrade chain gone-words one-edit-each first-store snapshots partial-writes wrong-places mutated-hellos http-clients turns hops
 
 # Plays the script that ships with the program before any proof.
 try:
@@ -67,6 +67,11 @@ tls-cluster:
 # Proves every crate from nothing, tries the edits that must fail, and runs the tests and the programs.
 test: chain gone-words
 	rt ci
+
+# Has the prover refuse one edit of each crate of which `rt ci` tries none, over the libraries that `make test` has just left:
+# TO MEASURE on four cores. CRATES="cc_views cc_wire" does these alone. The gate, `.ci/run`, is both.
+one-edit-each:
+	@python3 tools/one_edit_each.py $(CRATES)
 
 # Looks whether the longest chain of crates that stand on each other has grown, for which the program waits: a second.
 chain:

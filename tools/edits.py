@@ -88,16 +88,17 @@ def groups_of(edits):
     return groups
 
 
-def is_blamed(function, said):
-    """Whether an error stands in the function or in its proof."""
+def is_blamed(function, said, proof=None):
+    """Whether an error stands in the function or in its proof: in a file below `proof`, or where its module and its name lead."""
     module = re.escape(os.path.basename(function.file)[: -len(".rt")])
+    proof = re.escape(proof) if proof else rf"proofs/(?:.*/)?{module}/(?:\w+/)?{function.name}/"
     for line in said.split("\n"):
         place = PLACE.match(line)
         if not place or NAMES.match(line):
             continue
         if place[1] == function.file and function.first <= int(place[2]) + 1 and int(place[2]) <= function.last:
             return True
-        if ": error" in line and re.match(rf"proofs/(?:.*/)?{module}/(?:\w+/)?{function.name}/", place[1]):
+        if ": error" in line and re.match(proof, place[1]):
             return True
     return False
 
