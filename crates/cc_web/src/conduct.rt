@@ -2,7 +2,7 @@
 
 ghost use Rattle.std.specs.Prelude.{◌≡◌, List};
 ghost use Rattle.cc_web.specs.OrderLaws.{stores};
-ghost use Rattle.cc_web.specs.Conducts.{Tries, Owns, Conducts, ConductsAsk};
+ghost use Rattle.cc_web.specs.Conducts.{Tries, Conducts, ConductsAsk};
 ghost use Rattle.cc_web.specs.Steps.{Step, Leads};
 
 use crate::asked::Asked;
@@ -59,7 +59,8 @@ fn ask_for<A: NodeAccess>(
             Reply::of(became, stores(command))
         }
         None => {
-            let became = ask_node(asking, command, timeout_ms);
+            asking.begin(timeout_ms);
+            let became = ask_own(asking, command, timeout_ms);
             Reply::of_own(became, stores(command))
         }
     }
@@ -77,14 +78,6 @@ fn ask_client<A: NodeAccess>(
     asking.begin(timeout_ms);
     let mut left = timeout_ms;
     ask_under(asking, key, command, false, &mut left)
-}
-
-fn ask_node<A: NodeAccess>(asking: &mut A, command: &Command, timeout_ms: u64) -> Option<Asked>
-    ensures { (steps : List Step) × Leads A.does asking.old steps asking.new
-        × Owns command.now timeout_ms steps result }
-{
-    asking.begin(timeout_ms);
-    ask_own(asking, command, timeout_ms)
 }
 
 // Whether a command changes what the node stores.

@@ -17,13 +17,6 @@ pub struct Conversation<'a, R> {
     pub has_answered: bool,
 }
 
-impl<R: Wait + Clock> Conversation<'_, R> {
-    /// Whether no further request is to be answered.
-    pub fn is_over(&self) -> bool {
-        self.service.asking.is_over()
-    }
-}
-
 impl<'a, R: Wait + Clock> Service for Conversation<'a, R> {
     ghost use Rattle.std.specs.Prelude.{◌≡◌, ⊤};
     ghost use Rattle.cc_web.specs.LastResponse.{Closes};

@@ -78,20 +78,15 @@ fn put_base64(alloc: Global, out: &mut Vec<u8>, text: &[u8]) -> Result<(), Alloc
     put
 }
 
-fn put_later_number(out: &mut Vec<u8>, number: u32) -> Result<(), AllocError>
-    ensures { OnOk result (out.new.items ≡ out.old.items ++ later_number number) }
-{
-    put_all(
-        out,
-        &[b",\"", Buffer::new().format(number).as_bytes(), b"\""],
-    )
-}
-
+// Appends numbers behind others of an array.
 fn put_later_numbers(out: &mut Vec<u8>, numbers: &[u32]) -> Result<(), AllocError>
     ensures { OnOk result (out.new.items ≡ out.old.items ++ flat_map later_number numbers.now) }
 {
     for number in numbers {
-        put_later_number(out, *number)?;
+        put_all(
+            out,
+            &[b",\"", Buffer::new().format(*number).as_bytes(), b"\""],
+        )?;
     }
     Ok(())
 }
@@ -156,18 +151,13 @@ fn put_row(alloc: Global, out: &mut Vec<u8>, row: &Row) -> Result<(), AllocError
     put_rest(out, &row.value)
 }
 
-fn put_later_row(alloc: Global, out: &mut Vec<u8>, row: &Row) -> Result<(), AllocError>
-    ensures { OnOk result (out.new.items ≡ out.old.items ++ later_row row.now) }
-{
-    out.extend_from_slice(b",")?;
-    put_row(alloc, out, row)
-}
-
+// Appends rows behind others of an array.
 fn put_later_rows(alloc: Global, out: &mut Vec<u8>, rows: &[Row]) -> Result<(), AllocError>
     ensures { OnOk result (out.new.items ≡ out.old.items ++ flat_map later_row rows.now) }
 {
     for row in rows {
-        put_later_row(alloc, out, row)?;
+        out.extend_from_slice(b",")?;
+        put_row(alloc, out, row)?;
     }
     Ok(())
 }

@@ -49,19 +49,6 @@ impl<'a, R: Wait + Clock> Line<'a, R> {
         self.is_over
     }
 
-    // No answer came in time.
-    fn give_up(&mut self) -> Asked {
-        self.is_over = true;
-        Asked::Late
-    }
-
-    // Sends what a client asks that has that number.
-    fn send(&mut self, frame: Frame) -> bool {
-        let sent = send(self.alloc, self.stream, &frame);
-        drop(frame);
-        sent.is_some()
-    }
-
     // The next frame, in time.
     fn next(&mut self) -> Option<Frame> {
         receive(self.rt, self.stream, &mut self.incoming, &self.deadline)
@@ -73,17 +60,6 @@ impl<'a, R: Wait + Clock> Line<'a, R> {
             let frame = self.next()?;
             if let Some(asked) = verdict_in(key, command, frame) {
                 return Some(asked);
-            }
-        }
-        None
-    }
-
-    // The answer to an ask that was accepted before. None where it isn't there in time.
-    fn answer(&mut self, key: AskKey) -> Option<Answer> {
-        for _ in 0..u64::MAX {
-            let frame = self.next()?;
-            if let Some(answer) = answer_in(key, frame) {
-                return Some(answer);
             }
         }
         None
@@ -148,19 +124,31 @@ impl<R: Wait + Clock> NodeAccess for Line<'_, R> {
             request: key.request,
             command: *command,
         };
-        if !self.send(frame) {
-            return self.give_up();
-        }
-        match self.verdict(key, command) {
+        let asked = match send(self.alloc, self.stream, &frame) {
+            Some(()) => self.verdict(key, command),
+            None => None,
+        };
+        drop(frame);
+        match asked {
             Some(asked) => asked,
-            None => self.give_up(),
+            None => {
+                self.is_over = true;
+                Asked::Late
+            }
         }
     }
 
     fn wait(&mut self, key: AskKey) -> Option<Answer> {
-        let answer = self.answer(key);
-        self.is_over |= answer.is_none();
-        answer
+        for _ in 0..u64::MAX {
+            let Some(frame) = self.next() else {
+                break;
+            };
+            if let Some(answer) = answer_in(key, frame) {
+                return Some(answer);
+            }
+        }
+        self.is_over = true;
+        None
     }
 
     fn take(&mut self) -> Option<AskKey> {
@@ -187,7 +175,7 @@ fn verdict_in(key: AskKey, command: &Command, frame: Frame) -> Option<Asked> {
             refusal,
             value,
         } if session == key.session && request == key.request => {
-            refusal_of(refusal, value).map(Asked::Refused)
+            Some(Asked::Refused(refusal_of(refusal, value)?))
         }
         frame => match client.hear(Heard::Came(frame)) {
             Step::Done(answer) => Some(Asked::Answered(answer)),

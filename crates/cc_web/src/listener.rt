@@ -5,13 +5,14 @@ use crate::desk::Desk;
 use crate::line::Line;
 use crate::request::WebSettings;
 use crate::service::WebService;
-use crate::timed_stream::TimedStream;
+use crate::timed_stream::{TimedStream, is_waiting};
 use cc_connections::{Address, Flag, Places, connect};
 use http_server::{Config, Connection};
 use http1::Limits;
 use log::{Log, error, info};
 use std::alloc::Global;
 use std::hash::RandomState;
+use std::io::Read;
 use std::net::{Net, Shutdown, TcpListener, TcpStream};
 use std::sync::Wait;
 use std::thread::{Scope, Threads};
@@ -128,6 +129,7 @@ where
     });
 }
 
+// Starts a thread for each connection. Where too many are open, or it can't be made, the connection is closed.
 fn accept_all<'s, 'e: 's, R>(
     scope: &'s Scope<'s, &'e ()>,
     rt: &'e R,
@@ -142,31 +144,18 @@ where
         if gateway.over.is_set() {
             return;
         }
-        match accepted {
-            Ok((stream, _)) => begin(scope, rt, gateway, stream),
-            Err(_) => thread::sleep(rt, Duration::from_millis(PAUSE_MS)),
+        let Ok((stream, _)) = accepted else {
+            thread::sleep(rt, Duration::from_millis(PAUSE_MS));
+            continue;
+        };
+        if !gateway.places.enter() {
+            continue;
         }
-    }
-    unreachable!()
-}
-
-// Starts a thread for a connection. Where too many are open, or it can't be made, the connection is closed.
-fn begin<'s, 'e: 's, R>(
-    scope: &'s Scope<'s, &'e ()>,
-    rt: &'e R,
-    gateway: &'e Gateway<'e>,
-    stream: TcpStream,
-)
-where
-    R: Net<Listener = TcpListener, Stream = TcpStream> + Threads + Wait + Clock + Sync,
-{
-    if gateway.places.enter() {
         if scope.spawn(move || attend(rt, gateway, &stream)).is_err() {
             gateway.places.leave();
         }
-    } else {
-        drop(stream);
     }
+    unreachable!()
 }
 
 fn attend<R>(rt: &R, gateway: &Gateway<'_>, stream: &TcpStream)
@@ -206,10 +195,11 @@ fn serve_over<R: Wait + Clock>(
     let mut http = Connection::new(alloc, gateway.keys, CONFIG);
     let mut timed = TimedStream::new(rt, stream, gateway.over);
     converse(&mut http, &mut conversation, &mut timed);
+    // What its buffers still have goes to nobody.
+    drop(http.into_buffers());
+    drop(conversation);
     let _ = stream.shutdown(Shutdown::Write);
     drain(&mut timed);
-    drop(http);
-    drop(conversation);
 }
 
 // Reads, answers and writes until the connection is done, or takes too long.
@@ -237,7 +227,7 @@ fn converse<R: Wait + Clock>(
             stream.allow(Duration::from_secs(next));
             continue;
         }
-        let Ok(count) = http.read_from(stream) else {
+        let Some(count) = read_some(http, stream) else {
             return;
         };
         if !has_begun && count > 0 {
@@ -248,17 +238,32 @@ fn converse<R: Wait + Clock>(
 }
 
 // Writes what is pending. Whether all was taken in time.
-fn write_all<R: Clock>(http: &mut Connection, stream: &mut TimedStream<'_, R>) -> bool {
+fn write_all<R: Clock>(http: &mut Connection, stream: &TimedStream<'_, R>) -> bool {
     for _ in 0..u64::MAX {
         if !http.wants_write() {
             return true;
         }
-        match http.write_to(stream) {
+        let Some(mut to) = stream.to_write() else {
+            return false;
+        };
+        match http.write_to(&mut to) {
             Ok(count) if count > 0 => {}
             _ => return false,
         }
     }
     false
+}
+
+// Reads once something comes. None where nothing comes in time, or a read fails.
+fn read_some<R: Clock>(http: &mut Connection, stream: &TimedStream<'_, R>) -> Option<usize> {
+    for _ in 0..u64::MAX {
+        let mut from = stream.to_read()?;
+        match http.read_from(&mut from) {
+            Err(why) if is_waiting(why.kind()) => {}
+            read => return read.ok(),
+        }
+    }
+    None
 }
 
 // Takes what still comes, for a second and up to 64 KiB: a connection that is closed over bytes that nobody read takes its answer
@@ -267,8 +272,12 @@ fn drain<R: Clock>(stream: &mut TimedStream<'_, R>) {
     stream.allow(Duration::from_secs(DRAIN_S));
     let mut piece = [0; 1024];
     for _ in 0..64 {
-        match stream.take_some(&mut piece) {
-            Some(count) if count > 0 => {}
+        let Some(mut from) = stream.to_read() else {
+            return;
+        };
+        match from.read(&mut piece) {
+            Ok(count) if count > 0 => {}
+            Err(why) if is_waiting(why.kind()) => {}
             _ => return,
         }
     }

@@ -12,7 +12,7 @@ use itoa::Buffer;
 use std::alloc::AllocError;
 
 /// Why a request has no answer.
-#[derive(Clone, Copy, PartialEq, Eq)]
+#[derive(Clone, Copy)]
 pub enum Problem {
     /// It is no order.
     Fault(WebFault),

@@ -3,7 +3,7 @@
 ghost use Rattle.std.specs.Prelude.{◌≡◌, ◌++◌, [], OnOk, IfOk, IsOk};
 ghost use Rattle.std.specs.Option.{option_copied};
 ghost use Rattle.cc_web.specs.Responses.{collects_json, view_json, set_json, answer_json, last_request_json, form_value, field_name, field_value};
-ghost use Rattle.cc_web.specs.Responses.{problem_field, json_head, problem_head, overview_head, preflight_head};
+ghost use Rattle.cc_web.specs.Responses.{problem_field, retry_field, json_head, problem_head, overview_head, preflight_head};
 ghost use Rattle.cc_web.specs.Problems.{problem_json};
 
 use crate::fault::WebFault;
@@ -258,7 +258,16 @@ fn problem_field(problem: Problem) -> Option<WebField>
 {
     match problem {
         Problem::Fault(WebFault::Method(place)) => Some(WebField::Allow(place)),
-        _ if problem.status() == Status::Unavailable => Some(WebField::RetryAfter),
+        _ => retry_field(problem.status()),
+    }
+}
+
+// What passes is worth another try.
+fn retry_field(status: Status) -> Option<WebField>
+    ensures { result ≡ retry_field status }
+{
+    match status {
+        Status::Unavailable => Some(WebField::RetryAfter),
         _ => None,
     }
 }

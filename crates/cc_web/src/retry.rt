@@ -10,7 +10,7 @@ use cc_messages::Refusal;
 pub const PAUSE_MS: u64 = 20;
 
 /// What becomes of an ask that was refused.
-#[derive(Clone, Copy, PartialEq, Eq)]
+#[derive(Clone, Copy)]
 pub enum Next {
     /// It is asked again under the same key after so many milliseconds.
     Again(u64),

@@ -1,8 +1,7 @@
 //! A socket whose reads and writes are over in time, by the clock: however few bytes move at once, they buy no more time.
 
 use cc_connections::Flag;
-use std::io;
-use std::io::{ErrorKind, Read, Write};
+use std::io::ErrorKind;
 use std::net::TcpStream;
 use std::time::{Clock, Duration, Instant};
 
@@ -31,61 +30,38 @@ impl<'a, R: Clock> TimedStream<'a, R> {
 
     /// From now on it may read and write for so long.
     pub fn allow(&mut self, duration: Duration) {
-        self.until = Instant::now(self.rt)
-            .ok()
-            .and_then(|now| now.checked_add(duration));
+        self.until = match Instant::now(self.rt) {
+            Ok(now) => now.checked_add(duration),
+            Err(_) => None,
+        };
     }
 
-    /// Reads once: None where nothing came in time, or the read failed.
-    pub fn take_some(&mut self, piece: &mut [u8]) -> Option<usize> {
-        self.read(piece).ok()
+    /// The socket, for one read, which waits for a slice at most: then its time may not be over. None once it is.
+    pub fn to_read(&self) -> Option<&'a TcpStream> {
+        let slice = self.left()?.min(Duration::from_millis(SLICE_MS));
+        self.stream.set_read_timeout(Some(slice)).ok()?;
+        Some(self.stream)
     }
 
-    // What is left of its time.
-    fn left(&self) -> io::Result<Duration> {
+    /// The socket, for one write. None once its time is over.
+    pub fn to_write(&self) -> Option<&'a TcpStream> {
+        self.stream.set_write_timeout(Some(self.left()?)).ok()?;
+        Some(self.stream)
+    }
+
+    // What is left of its time, if some is.
+    fn left(&self) -> Option<Duration> {
         if self.over.is_set() {
-            return Err(ErrorKind::TimedOut.into());
+            return None;
         }
-        let now = Instant::now(self.rt)?;
-        match self
-            .until
-            .and_then(|until| until.checked_duration_since(now))
-        {
-            Some(left) if left > Duration::ZERO => Ok(left),
-            _ => Err(ErrorKind::TimedOut.into()),
-        }
+        let now = Instant::now(self.rt).ok()?;
+        let left = self.until?.checked_duration_since(now)?;
+        (left > Duration::ZERO).then_some(left)
     }
 }
 
-impl<R: Clock> Read for TimedStream<'_, R> {
-    fn read(&mut self, buf: &mut [u8]) -> io::Result<usize> {
-        for _ in 0..u64::MAX {
-            let left = self.left()?.min(Duration::from_millis(SLICE_MS));
-            self.stream.set_read_timeout(Some(left))?;
-            let mut from = self.stream;
-            match from.read(buf) {
-                Err(why) if is_waiting(why.kind()) => {}
-                read => return read,
-            }
-        }
-        Err(ErrorKind::TimedOut.into())
-    }
-}
-
-impl<R: Clock> Write for TimedStream<'_, R> {
-    fn write(&mut self, bytes: &[u8]) -> io::Result<usize> {
-        self.stream.set_write_timeout(Some(self.left()?))?;
-        let mut to = self.stream;
-        to.write(bytes)
-    }
-
-    fn flush(&mut self) -> io::Result<()> {
-        Ok(())
-    }
-}
-
-// Whether nothing came yet.
-fn is_waiting(kind: ErrorKind) -> bool {
+/// Whether nothing came yet.
+pub fn is_waiting(kind: ErrorKind) -> bool {
     matches!(
         kind,
         ErrorKind::WouldBlock | ErrorKind::TimedOut | ErrorKind::Interrupted

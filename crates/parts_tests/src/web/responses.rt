@@ -64,7 +64,7 @@ fn a_view_is_rows_without_loss(rt: HostRuntime) {
     drop(seen);
     let head = response.head;
     assert!(rt;
-        head.status == Status::Ok && matches!(head.form, Form::Json) && head.field.is_none()
+        matches!(head.status, Status::Ok) && matches!(head.form, Form::Json) && head.field.is_none()
     );
     assert!(rt; response.body.as_slice() == ROWS.as_bytes());
 }
