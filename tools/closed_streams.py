@@ -153,8 +153,9 @@ def played(cluster, way=()):
 
 
 def dumped(cluster):
-    """The node of the folder, as `dump` prints it."""
-    return cluster.does(["dump", "node-1"])
+    """The node of the folder, as `dump` prints it behind three lines on its sides."""
+    status, printed = cluster.does(["dump", "--node", "node-1"])
+    return status, printed.splitlines()[3:]
 
 
 def commands_on_folders(program, way):
