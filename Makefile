@@ -69,7 +69,7 @@ test: chain gone-words
 	rt ci
 
 # Has the prover refuse one edit of each crate of which `rt ci` tries none, over the libraries that `make test` has just left:
-# TO MEASURE on four cores. CRATES="cc_views cc_wire" does these alone. The gate, `.ci/run`, is both.
+# some minutes. CRATES="cc_views cc_wire" does these alone. The gate, `.ci/run`, is both.
 one-edit-each:
 	@python3 tools/one_edit_each.py $(CRATES)
 

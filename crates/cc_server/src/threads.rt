@@ -3,16 +3,17 @@
 ghost use Rattle.std.specs.Thread.{IsSend};
 
 use cc_channels::{
-    Dialler, FarEnd, Inlets, Listeners, Machine, Note, Port, Shared, dial_peer, write_notes,
+    Admission, Dialler, FarEnd, Inlets, Listeners, Machine, Note, Port, Shared, dial_peer,
+    write_notes,
 };
 use cc_connections::{Flag, Stop};
 use cc_flush::Failed;
-use cc_intake::{Lane, Life};
+use cc_intake::{Hooks, Lane, Life, OfLife, Queue, Turner};
 use cc_messages::Event;
 use cc_site::Site;
 use cc_status::Board;
-use cc_threads::{Follower, Turns, Watch, flush_all, follow_peers, show_until, tick_until};
-use cc_workers::{Context, TakeTurn, attend, serve_own};
+use cc_threads::{Follower, Watch, flush_all, follow_peers, show_until, tick_until};
+use cc_workers::{Context, attend, serve_own};
 use crossbeam_channel::Receiver;
 use std::alloc::Global;
 use std::net::TcpListener;
@@ -57,9 +58,9 @@ pub fn cut<'x>(
 
 /// Starts the ticker and what serves, flushes in this thread until all is done, and ends them. None where a thread can't be
 /// made.
-pub fn live<'x, 't, L: Life + Send + Sync, Q: Lane + Send + Sync, S: Site, R, T: TakeTurn + Sync>(
-    context: &'x Context<'x, R, T, L, Q>,
-    turns: &'x Turns<'t, S, L, Q, R>,
+pub fn live<'x, L: Life + Send + Sync, Q: Lane + Send + Sync, S: Site, R, H: Hooks + Sync>(
+    context: &'x Context<'x, R, H, L, Q>,
+    turner: &'x mut Turner<S, L, Q>,
     watch: Watch<'x>,
     ends: FarEnds,
     listeners: &'x Listeners,
@@ -69,8 +70,10 @@ where
     R: Machine,
 {
     let rt = context.rt;
+    let queue = context.queue;
     let shared = context.shared;
     let admission = context.admission;
+    let turner = &mut *turner;
     thread::scope(
         thread::scope_env(),
         rt,
@@ -90,7 +93,7 @@ where
                 shared.done.set();
                 return None;
             };
-            let outcome = flush_until(turns, &watch);
+            let outcome = flush_until(rt, turner, queue, admission, &watch);
             let is_served = server.join(rt);
             match outcome {
                 Ok(()) if !is_served => None,
@@ -102,18 +105,21 @@ where
 
 // Flushes, and has all end where that fails.
 fn flush_until<S: Site, L: Life, Q: Lane, R: Wait + Clock>(
-    turns: &Turns<'_, S, L, Q, R>,
+    rt: &R,
+    turner: &mut Turner<S, L, Q>,
+    queue: &Queue<L, Q>,
+    admission: &Admission<OfLife<L>>,
     watch: &Watch<'_>,
 ) -> Result<(), Failed> {
-    let outcome = flush_all(turns, watch);
+    let outcome = flush_all(rt, turner, queue, admission, watch);
     watch.shared.ended.set();
-    turns.admission.close(turns.rt);
+    admission.close(rt);
     outcome
 }
 
 // Serves until a flag is set, and then tells the flusher that nothing more comes. Whether it served.
-fn serve_until<L: Life + Send + Sync, Q: Lane + Send + Sync, R, T: TakeTurn + Sync>(
-    context: &Context<'_, R, T, L, Q>,
+fn serve_until<L: Life + Send + Sync, Q: Lane + Send + Sync, R, H: Hooks + Sync>(
+    context: &Context<'_, R, H, L, Q>,
     ends: FarEnds,
     listeners: &Listeners,
     stop: &Stop,
@@ -130,8 +136,8 @@ where
 // Starts the diallers, the worker of the own messages and the acceptor for clients, accepts connections until a flag is set,
 // and then ends the diallers first and the workers next. False, and nothing is accepted, where a thread of these can't
 // be made.
-fn serve_all<L: Life + Send + Sync, Q: Lane + Send + Sync, R, T: TakeTurn + Sync>(
-    context: &Context<'_, R, T, L, Q>,
+fn serve_all<L: Life + Send + Sync, Q: Lane + Send + Sync, R, H: Hooks + Sync>(
+    context: &Context<'_, R, H, L, Q>,
     ends: FarEnds,
     listeners: &Listeners,
     stop: &Stop,
@@ -186,9 +192,9 @@ where
 
 // Starts the worker of the own messages, the writer of notes, and what follows the file of the peers until the flag is set.
 // Whether all threads could be made.
-fn start_inner<'s, 'e: 's, L: Life + Send + Sync, Q: Lane + Send + Sync, R, T: TakeTurn + Sync>(
+fn start_inner<'s, 'e: 's, L: Life + Send + Sync, Q: Lane + Send + Sync, R, H: Hooks + Sync>(
     scope: &'s Scope<'s, &'e ()>,
-    context: &'e Context<'e, R, T, L, Q>,
+    context: &'e Context<'e, R, H, L, Q>,
     own: Receiver<Option<Event>>,
     notes: Receiver<Option<Note>>,
     dialler: &'e Dialler<'e>,
@@ -208,8 +214,8 @@ where
 }
 
 // Follows the file of the peers until the flag is set, if there is one.
-fn follow<L: Life, Q: Lane, R, T: TakeTurn + Sync>(
-    context: &Context<'_, R, T, L, Q>,
+fn follow<L: Life, Q: Lane, R, H: Hooks + Sync>(
+    context: &Context<'_, R, H, L, Q>,
     dialler: &Dialler<'_>,
 )
 where
@@ -230,9 +236,9 @@ where
 
 // Starts what accepts connections to the port for clients, if there is one and all others were started: only a flag ends it.
 // Whether all threads could be made.
-fn start_clients<'s, 'e: 's, L: Life + Send + Sync, Q: Lane + Send + Sync, R, T: TakeTurn + Sync>(
+fn start_clients<'s, 'e: 's, L: Life + Send + Sync, Q: Lane + Send + Sync, R, H: Hooks + Sync>(
     scope: &'s Scope<'s, &'e ()>,
-    context: &'e Context<'e, R, T, L, Q>,
+    context: &'e Context<'e, R, H, L, Q>,
     listeners: &'e Listeners,
     stop: &'e Stop,
     is_whole: bool,
@@ -252,8 +258,8 @@ where
 }
 
 // Accepts connections to the port for clients until a flag is set, and waits for their workers.
-fn serve_clients<L: Life + Send + Sync, Q: Lane + Send + Sync, R, T: TakeTurn + Sync>(
-    context: &Context<'_, R, T, L, Q>,
+fn serve_clients<L: Life + Send + Sync, Q: Lane + Send + Sync, R, H: Hooks + Sync>(
+    context: &Context<'_, R, H, L, Q>,
     listener: &TcpListener,
     stop: &Stop,
 )
@@ -272,9 +278,9 @@ where
     );
 }
 
-fn accept_all<'s, 'e: 's, L: Life + Send + Sync, Q: Lane + Send + Sync, R, T: TakeTurn + Sync>(
+fn accept_all<'s, 'e: 's, L: Life + Send + Sync, Q: Lane + Send + Sync, R, H: Hooks + Sync>(
     scope: &'s Scope<'s, &'e ()>,
-    context: &'e Context<'e, R, T, L, Q>,
+    context: &'e Context<'e, R, H, L, Q>,
     listener: &TcpListener,
     port: Port,
     stop: &Stop,

@@ -5,9 +5,8 @@ ghost use Rattle.cc_workers.specs.WorkerSteps.{brings_again};
 
 use crate::context::Context;
 use crate::duties::duty_of;
-use crate::take_turn::TakeTurn;
 use cc_channels::{Admission, Shared};
-use cc_intake::{Accepted, Lane, Life, Refused, Source};
+use cc_intake::{Accepted, Hooks, Lane, Life, Refused, Source};
 use cc_messages::Event;
 use cc_protocol::Duty;
 use cc_site::Flushed;
@@ -16,9 +15,8 @@ use std::sync::Wait;
 
 /// The events of the node's own messages, until None comes.
 #[derive(Drop)]
-struct Own<'a, R: Wait, T: TakeTurn, F: Flushed> {
+struct Own<'a, R: Wait, F: Flushed> {
     rt: &'a R,
-    turns: &'a T,
     shared: &'a Shared,
     admission: &'a Admission<F>,
     from: Receiver<Option<Event>>,
@@ -26,7 +24,7 @@ struct Own<'a, R: Wait, T: TakeTurn, F: Flushed> {
     due: Option<Event>,
 }
 
-impl<R: Wait, T: TakeTurn, F: Flushed> Own<'_, R, T, F> {
+impl<R: Wait, F: Flushed> Own<'_, R, F> {
     // The event that comes next: the one that is due, if one is.
     fn event(&mut self) -> Option<Event>
         ensures { IfSome self.old.due (λ due. result ≡ Some due) }
@@ -53,7 +51,7 @@ impl<R: Wait, T: TakeTurn, F: Flushed> Own<'_, R, T, F> {
         ensures { result ≡ brings_again duty }
     {
         match duty {
-            Duty::Wake => self.turns.take_turn(),
+            Duty::Wake => self.shared.waker.wake(),
             Duty::Defer => self.shared.waker.defer(),
             Duty::Reack(peer) => self.shared.reack(self.rt, peer),
             Duty::BringAgain => return true,
@@ -63,7 +61,7 @@ impl<R: Wait, T: TakeTurn, F: Flushed> Own<'_, R, T, F> {
     }
 }
 
-impl<R: Wait, T: TakeTurn, F: Flushed> Source for Own<'_, R, T, F> {
+impl<R: Wait, F: Flushed> Source for Own<'_, R, F> {
     ghost use Rattle.cc_workers.specs.WorkerSteps.{due_after};
 
     ghost gives = { λ s e t. IfSome s.due (λ due. IfSome e (λ given. given ≡ due)) };
@@ -93,8 +91,8 @@ impl<R: Wait, T: TakeTurn, F: Flushed> Source for Own<'_, R, T, F> {
 }
 
 /// Brings what the node sends to itself to the intake, until None comes.
-pub fn serve_own<R: Wait, T: TakeTurn, L: Life, Q: Lane>(
-    context: &Context<'_, R, T, L, Q>,
+pub fn serve_own<R: Wait, H: Hooks, L: Life, Q: Lane>(
+    context: &Context<'_, R, H, L, Q>,
     from: Receiver<Option<Event>>,
 ) {
     let Some(mut share) = context.draw() else {
@@ -103,7 +101,6 @@ pub fn serve_own<R: Wait, T: TakeTurn, L: Life, Q: Lane>(
     };
     let mut own = Own {
         rt: context.rt,
-        turns: context.turns,
         shared: context.shared,
         admission: context.admission,
         from,
