@@ -3,6 +3,7 @@ mod OrderLaws
 mod OrderSteps
 mod OwnChoices
 mod OwnLaws
+mod Arrays
 mod Pieces
 mod Texts
 mod Endings

@@ -30,12 +30,12 @@ pub fn put_response(
 {
     let WebResponse { head, body } = decided;
     sent.clear();
+    sent.body.push(Bytes::from_vec(body)?)?;
     sent.status = StatusCode::from_u16(head.status.code()).unwrap();
     put_type(sent, head.form)?;
     put_own(sent, head.field)?;
     put_all(sent, &COMMON_FIELDS)?;
-    put_origin(sent, origin)?;
-    sent.body.push(Bytes::from_vec(body)?)
+    put_origin(sent, origin)
 }
 
 fn put(sent: &mut Response, name: &'static str, value: &'static str) -> Result<(), AllocError>
@@ -85,34 +85,20 @@ fn put_all(sent: &mut Response, fields: &[(&'static str, &'static str)]) -> Resu
     Ok(())
 }
 
+#[tactic(auto, using(std::proofs::Common::append_assoc))]
 fn put_origin(sent: &mut Response, origin: Option<&HeaderValue>) -> Result<(), AllocError>
     ensures fields { OnOk result (fields_of sent.new
         ≡ fields_of sent.old ++ origin_fields (option_map (λ v. v.bytes) (option_copied origin.entry))) }
     ensures status { sent.new.status ≡ sent.old.status }
     ensures body { sent.new.body ≡ sent.old.body }
 {
-    match origin {
-        Some(origin) => put_shown(sent, origin),
-        None => Ok(()),
-    }
-}
-
-#[tactic(auto, using(std::proofs::Common::append_assoc))]
-fn put_shown(sent: &mut Response, origin: &HeaderValue) -> Result<(), AllocError>
-    ensures fields { OnOk result (fields_of sent.new ≡ fields_of sent.old ++ origin_fields (Some origin.now.bytes)) }
-    ensures status { sent.new.status ≡ sent.old.status }
-    ensures body { sent.new.body ≡ sent.old.body }
-{
-    put_copy(sent, "access-control-allow-origin", origin)?;
+    let Some(origin) = origin else {
+        return Ok(());
+    };
+    let value = origin.clone()?;
+    sent.add_header(
+        HeaderName::from_static("access-control-allow-origin"),
+        value,
+    )?;
     put_all(sent, &ORIGIN_FIELDS)
-}
-
-fn put_copy(sent: &mut Response, name: &'static str, value: &HeaderValue) -> Result<(), AllocError>
-    requires { IsTrue (is_header_name name.now) }
-    ensures fields { OnOk result (fields_of sent.new ≡ fields_of sent.old ++ (name.now, value.now.bytes) ∷ []) }
-    ensures status { sent.new.status ≡ sent.old.status }
-    ensures body { sent.new.body ≡ sent.old.body }
-{
-    let value = value.clone()?;
-    sent.add_header(HeaderName::from_static(name), value)
 }

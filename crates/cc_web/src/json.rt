@@ -2,7 +2,7 @@
 
 ghost use Rattle.std.specs.Prelude.{◌≡◌, ◌<◌, ◌++◌, OnOk};
 ghost use Rattle.std.specs.List.{flat_map};
-ghost use Rattle.cc_web.specs.Json.{hex_digit, escaped, string_json, numbers_json, later_number, base64_json, text_json, flag_json, rest_json, row_json, later_row, rows_json};
+ghost use Rattle.cc_web.specs.Json.{hex_digit, escaped, string_json, numbers_json, base64_json, text_json, flag_json, rest_json, row_json, rows_json};
 
 use base64::engine::general_purpose::STANDARD;
 use cc_views::{Row, Value};
@@ -78,31 +78,20 @@ fn put_base64(alloc: Global, out: &mut Vec<u8>, text: &[u8]) -> Result<(), Alloc
     put
 }
 
-// Appends numbers behind others of an array.
-fn put_later_numbers(out: &mut Vec<u8>, numbers: &[u32]) -> Result<(), AllocError>
-    ensures { OnOk result (out.new.items ≡ out.old.items ++ flat_map later_number numbers.now) }
-{
-    for number in numbers {
-        put_all(
-            out,
-            &[b",\"", Buffer::new().format(*number).as_bytes(), b"\""],
-        )?;
-    }
-    Ok(())
-}
-
 /// Appends numbers as an array.
 pub(crate) fn put_numbers(out: &mut Vec<u8>, numbers: &[u32]) -> Result<(), AllocError>
     ensures { OnOk result (out.new.items ≡ out.old.items ++ numbers_json numbers.now) }
 {
-    let Some((first, others)) = numbers.split_first() else {
-        return out.extend_from_slice(b"[]");
-    };
-    put_all(
-        out,
-        &[b"[\"", Buffer::new().format(*first).as_bytes(), b"\""],
-    )?;
-    put_later_numbers(out, others)?;
+    out.extend_from_slice(b"[")?;
+    let mut mark: &[u8] = b"";
+    for number in numbers {
+        out.extend_from_slice(mark)?;
+        put_all(
+            out,
+            &[b"\"", Buffer::new().format(*number).as_bytes(), b"\""],
+        )?;
+        mark = b",";
+    }
     out.extend_from_slice(b"]")
 }
 
@@ -151,26 +140,16 @@ fn put_row(alloc: Global, out: &mut Vec<u8>, row: &Row) -> Result<(), AllocError
     put_rest(out, &row.value)
 }
 
-// Appends rows behind others of an array.
-fn put_later_rows(alloc: Global, out: &mut Vec<u8>, rows: &[Row]) -> Result<(), AllocError>
-    ensures { OnOk result (out.new.items ≡ out.old.items ++ flat_map later_row rows.now) }
-{
-    for row in rows {
-        out.extend_from_slice(b",")?;
-        put_row(alloc, out, row)?;
-    }
-    Ok(())
-}
-
 /// Appends the rows of a view as an array.
 pub(crate) fn put_rows(alloc: Global, out: &mut Vec<u8>, rows: &[Row]) -> Result<(), AllocError>
     ensures { OnOk result (out.new.items ≡ out.old.items ++ rows_json rows.now) }
 {
-    let Some((first, others)) = rows.split_first() else {
-        return out.extend_from_slice(b"[]");
-    };
     out.extend_from_slice(b"[")?;
-    put_row(alloc, out, first)?;
-    put_later_rows(alloc, out, others)?;
+    let mut comma: &[u8] = b"";
+    for row in rows {
+        out.extend_from_slice(comma)?;
+        put_row(alloc, out, row)?;
+        comma = b",";
+    }
     out.extend_from_slice(b"]")
 }

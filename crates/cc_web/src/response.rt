@@ -3,7 +3,7 @@
 ghost use Rattle.std.specs.Prelude.{◌≡◌, ◌++◌, [], OnOk, IfOk, IsOk};
 ghost use Rattle.std.specs.Option.{option_copied};
 ghost use Rattle.cc_web.specs.Responses.{collects_json, view_json, set_json, answer_json, last_request_json, form_value, field_name, field_value};
-ghost use Rattle.cc_web.specs.Responses.{problem_field, retry_field, json_head, problem_head, overview_head, preflight_head};
+ghost use Rattle.cc_web.specs.Responses.{problem_field, json_head, problem_head, overview_head, preflight_head};
 ghost use Rattle.cc_web.specs.Problems.{problem_json};
 
 use crate::fault::WebFault;
@@ -172,21 +172,6 @@ fn put_answer(
     }
 }
 
-fn put_last_request(out: &mut Vec<u8>, session: u64, last: u64) -> Result<(), AllocError>
-    ensures { OnOk result (out.new.items ≡ out.old.items ++ last_request_json session last) }
-{
-    put_all(
-        out,
-        &[
-            b"{\"session\":\"",
-            Buffer::new().format(session).as_bytes(),
-            b"\",\"last_request\":\"",
-            Buffer::new().format(last).as_bytes(),
-            b"\"}",
-        ],
-    )
-}
-
 // The response with that head, whose body was written so.
 pub(crate) fn finished(
     head: WebHead,
@@ -234,7 +219,16 @@ pub fn last_request_response(
     ensures body { IfOk result (λ r. r.body.items ≡ last_request_json session last) }
 {
     let mut body = Vec::new(alloc);
-    let put = put_last_request(&mut body, session, last);
+    let put = put_all(
+        &mut body,
+        &[
+            b"{\"session\":\"",
+            Buffer::new().format(session).as_bytes(),
+            b"\",\"last_request\":\"",
+            Buffer::new().format(last).as_bytes(),
+            b"\"}",
+        ],
+    );
     finished(JSON_HEAD, body, put)
 }
 
@@ -258,17 +252,11 @@ fn problem_field(problem: Problem) -> Option<WebField>
 {
     match problem {
         Problem::Fault(WebFault::Method(place)) => Some(WebField::Allow(place)),
-        _ => retry_field(problem.status()),
-    }
-}
-
-// What passes is worth another try.
-fn retry_field(status: Status) -> Option<WebField>
-    ensures { result ≡ retry_field status }
-{
-    match status {
-        Status::Unavailable => Some(WebField::RetryAfter),
-        _ => None,
+        // What passes is worth another try.
+        _ => match problem.status() {
+            Status::Unavailable => Some(WebField::RetryAfter),
+            _ => None,
+        },
     }
 }
 
