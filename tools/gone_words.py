@@ -10,7 +10,7 @@ import sys
 GONE = {
     "cc_sides": "cc_node_state", "cc_files": "cc_site", "cc_http": "cc_status", "cc_watch": "cc_status", "cc_texts": "cc_command_line",
     "cc_orders": "cc_command_line", "cc_arguments": "cc_command_line", "cc_load": "cc_client", "cc_look": "cc_client",
-    "cc_terminal": "cc_commands", "cc_play": "cc_commands", "cc_service": "cc_web", "cc_gateway": "cc_web",
+    "cc_commands": "cc_subcommands", "cc_protocol": "cc_policies", "cc_terminal": "cc_subcommands", "cc_play": "cc_subcommands", "cc_service": "cc_web", "cc_gateway": "cc_web",
     "cc_frames": "cc_connections", "cc_addresses": "cc_connections", "cc_flags": "cc_connections", "cc_flushing": "cc_threads",
     "cc_life": "cc_intake", "cc_network": "cc_connections",
     "cc_states": "cc_node_state", "cc_words": "cc_command_line", "cc_shared": "cc_channels or cc_threads", "cc_dialling": "cc_channels or cc_threads",

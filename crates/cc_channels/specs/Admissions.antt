@@ -5,9 +5,9 @@
 --     IsWhy          that an event was barred only where it may not come, and objected to only where there is an objection
 use Rattle.std.specs.Prelude.{◌≡◌, ℕ, Bool, false, ◌&&◌, Option, Some, ⊤}
 use Rattle.cc_messages.specs.declared.event.Event.{Event}
-use Rattle.cc_protocol.specs.declared.operator_outcome.Objection.{Objection}
-use Rattle.cc_protocol.specs.declared.origin.Access.{Access}
-use Rattle.cc_protocol.specs.Access.{allows, may_speak}
+use Rattle.cc_policies.specs.declared.operator_outcome.Objection.{Objection}
+use Rattle.cc_policies.specs.declared.origin.Access.{Access}
+use Rattle.cc_policies.specs.Access.{allows, may_speak}
 use Rattle.cc_channels.specs.declared.admission.NotAdmitted.{NotAdmitted}
 use Rattle.cc_channels.specs.declared.admission.NotAdmitted.TheVariants as why
 

@@ -5,8 +5,8 @@
 --     rest_alone       without the parcels
 --     unsent_bytes     all bytes in their order, as the node `me` writes them
 use Rattle.std.specs.Prelude.{ℕ, List, [], ◌++◌, ◌+◌, if◌then◌else◌, nat_lt}
-use Rattle.cc_protocol.specs.declared.bundle.Parcel.{Parcel}
-use Rattle.cc_protocol.specs.Bundles.{Bundled, no_parcel, with_parcel, bundle_bytes}
+use Rattle.cc_policies.specs.declared.bundle.Parcel.{Parcel}
+use Rattle.cc_policies.specs.Bundles.{Bundled, no_parcel, with_parcel, bundle_bytes}
 
 pub record Unsent : Type 0 where
   pub rest : List ℕ

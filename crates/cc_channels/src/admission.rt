@@ -12,7 +12,7 @@ use cc_connections::Flag;
 use cc_messages::Event;
 use cc_node::{Core, Node};
 use cc_ops::{Asked, Stage};
-use cc_protocol::{Objection, is_furthest_behind, is_given_up, may_hand_over};
+use cc_policies::{Objection, is_furthest_behind, is_given_up, may_hand_over};
 use cc_site::Flushed;
 use cc_views::NodeId;
 use std::alloc::{AllocError, Global};

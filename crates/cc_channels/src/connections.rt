@@ -4,7 +4,7 @@ use crate::at_once::write_at_once;
 use crate::offer::offer;
 use cc_connections::Flag;
 use cc_ops::Asked;
-use cc_protocol::{Access, Admitted, LastAsks, Origin, Routes, Speakers, Spoken};
+use cc_policies::{Access, Admitted, LastAsks, Origin, Routes, Speakers, Spoken};
 use cc_views::{NoMemory, NodeId};
 use crossbeam_channel::Sender;
 use std::alloc::Global;

@@ -9,7 +9,7 @@ use crate::trouble::Trouble;
 use crate::waker::Waker;
 use crate::writer::millis;
 use cc_connections::{Address, ConnectFault, Flag, Frame, connect};
-use cc_protocol::{Greeter, Met, PEER_ANSWER_MS, ReceivedFrames, WRITE_BYTES, met_by};
+use cc_policies::{Greeter, Met, PEER_ANSWER_MS, ReceivedFrames, WRITE_BYTES, met_by};
 use cc_views::NodeId;
 use log::Log;
 use std::alloc::{AllocError, Global};

@@ -8,7 +8,7 @@ use crate::connections::{Connection, Connections};
 use crate::hello_exchange::HelloExchange;
 use crate::waker::Waker;
 use cc_messages::Event;
-use cc_protocol::{Admitted, Objection, Spoken, may_speak, speaker_of};
+use cc_policies::{Admitted, Objection, Spoken, may_speak, speaker_of};
 use cc_site::Flushed;
 use cc_views::NodeId;
 use std::marker::Model;

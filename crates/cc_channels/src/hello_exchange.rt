@@ -1,7 +1,7 @@
 //! How a node greets its peers, and what comes of it.
 
 use cc_connections::Flag;
-use cc_protocol::Greeter;
+use cc_policies::Greeter;
 use cc_views::NodeId;
 use std::fmt;
 use std::sync::atomic::{AtomicU64, Ordering};

@@ -3,7 +3,7 @@
 use crate::trouble::words_of;
 use cc_connections::{Address, Reason};
 use cc_messages::Share;
-use cc_protocol::{AskName, SlowOperation};
+use cc_policies::{AskName, SlowOperation};
 use cc_site::{Side, file_name};
 use cc_views::NodeId;
 use crossbeam_channel::{Receiver, Sender, bounded};

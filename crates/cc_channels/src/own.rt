@@ -5,7 +5,7 @@ ghost use Rattle.std.specs.Prelude.{◌≤◌};
 use crate::offer::offer;
 use cc_connections::Flag;
 use cc_messages::{Event, PostRange};
-use cc_protocol::{Due, Withheld};
+use cc_policies::{Due, Withheld};
 use crossbeam_channel::{Receiver, Sender, bounded};
 use std::alloc::{AllocError, Global};
 use std::sync::{Mutex, Wait};

@@ -8,7 +8,7 @@ use crate::peer_socket::PeerSocket;
 use crate::trouble::{Trouble, Troubles};
 use cc_connections::{Address, Flag, Peer, Reason};
 use cc_messages::PostRange;
-use cc_protocol::{Due, Parcel, Withheld};
+use cc_policies::{Due, Parcel, Withheld};
 use cc_views::NodeId;
 use crossbeam_channel::{Receiver, Sender, bounded};
 use std::alloc::{AllocError, Global};

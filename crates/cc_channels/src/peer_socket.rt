@@ -4,7 +4,7 @@ ghost use Rattle.std.specs.Prelude.{◌≤◌};
 
 use crate::at_once::write_at_once;
 use crate::send_buffer::SendBuffer;
-use cc_protocol::{Parcel, WRITE_BYTES};
+use cc_policies::{Parcel, WRITE_BYTES};
 use cc_views::NodeId;
 use std::alloc::Global;
 use std::net::TcpStream;

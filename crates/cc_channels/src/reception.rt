@@ -1,7 +1,7 @@
 //! Which nodes are taken that greet.
 
 use cc_connections::{Hello, Reason};
-use cc_protocol::{Greeted, Greetings, Recipient};
+use cc_policies::{Greeted, Greetings, Recipient};
 use cc_views::{NoMemory, NodeId};
 use std::alloc::Global;
 use std::collections::BTreeMap;

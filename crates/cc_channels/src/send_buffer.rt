@@ -1,10 +1,10 @@
 //! What is to be written to a peer.
 
 ghost use Rattle.std.specs.Prelude.{◌≡◌, ◌≤◌, ◌++◌, [], drop, length, nat_lt, true, OnOk, OnErr, IfOk, MatchOption, ⊤};
-ghost use Rattle.cc_protocol.specs.Bundles.{no_parcel};
+ghost use Rattle.cc_policies.specs.Bundles.{no_parcel};
 ghost use Rattle.cc_channels.specs.SendBuffers.{nothing, with_one_more, rest_alone, unsent_bytes};
 
-use cc_protocol::{Bundle, Parcel};
+use cc_policies::{Bundle, Parcel};
 use cc_views::{NoMemory, NodeId};
 use std::alloc::Global;
 use std::marker::Model;
@@ -20,7 +20,7 @@ pub struct SendBuffer {
 impl Model for SendBuffer {
     ghost use Rattle.std.specs.Prelude.{[]};
     ghost use Rattle.std.specs.Option.{option_map_or};
-    ghost use Rattle.cc_protocol.specs.Bundles.{no_parcel};
+    ghost use Rattle.cc_policies.specs.Bundles.{no_parcel};
     ghost use Rattle.cc_channels.specs.SendBuffers.{Unsent};
 
     ghost Value = { Unsent };

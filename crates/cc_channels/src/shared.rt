@@ -13,7 +13,7 @@ use crate::waker::Waker;
 use cc_connections::{Flag, Gauges, Peer};
 use cc_messages::Event;
 use cc_node::Core;
-use cc_protocol::{HealthTable, Wishes, is_old_copy, is_silent};
+use cc_policies::{HealthTable, Wishes, is_old_copy, is_silent};
 use cc_views::{NoMemory, NodeId};
 use crossbeam_channel::Receiver;
 use crossbeam_utils::sync::Parker;

@@ -2,7 +2,7 @@
 
 ghost use Rattle.std.specs.Prelude.{◌≡◌};
 
-use cc_protocol::Input;
+use cc_policies::Input;
 use std::io;
 use std::io::{ErrorKind, Read};
 use std::net::TcpStream;

@@ -5,7 +5,7 @@ use crate::listeners::Port;
 use crate::shared::Shared;
 use crate::timed_input::Patience;
 use crate::writer::write_frames;
-use cc_protocol::{Access, Admitted, CLIENT_WRITE_MS, Origin};
+use cc_policies::{Access, Admitted, CLIENT_WRITE_MS, Origin};
 use crossbeam_channel::{Receiver, bounded};
 use std::alloc::Global;
 use std::net::{Shutdown, SocketAddr, TcpStream};

@@ -3,7 +3,7 @@
 use crate::notes::{Notice, give_notice};
 use crate::shared::Shared;
 use cc_connections::{Address, Hello, Reason};
-use cc_protocol::{Greeted, is_old_copy};
+use cc_policies::{Greeted, is_old_copy};
 use cc_views::NodeId;
 use log::Log;
 use std::net::SocketAddr;

@@ -1,6 +1,6 @@
 //! The writer of a connection, and the clocks.
 
-use cc_protocol::WRITE_BYTES;
+use cc_policies::WRITE_BYTES;
 use crossbeam_channel::Receiver;
 use std::alloc::AllocError;
 use std::io::Write;

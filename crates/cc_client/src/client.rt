@@ -7,7 +7,7 @@ use crate::tally::Tally;
 use cc_command_line::Operation;
 use cc_connections::{Address, Frame};
 use cc_messages::Refusal;
-use cc_protocol::{Client, Heard, ReceivedFrames, Stage, Step};
+use cc_policies::{Client, Heard, ReceivedFrames, Stage, Step};
 use std::alloc::Global;
 use std::net::{Net, TcpStream};
 use std::thread;

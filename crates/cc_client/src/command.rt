@@ -9,7 +9,7 @@ use crate::snapshot::take_snapshot;
 use cc_command_line::AskOrder;
 use cc_connections::{Address, Frame};
 use cc_messages::{Answer, Refusal};
-use cc_protocol::{Client, Heard, ReceivedFrames, Stage, Step};
+use cc_policies::{Client, Heard, ReceivedFrames, Stage, Step};
 use std::alloc::Global;
 use std::io;
 use std::io::Write;

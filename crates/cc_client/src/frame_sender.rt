@@ -3,7 +3,7 @@
 use crate::deadline::Deadline;
 use crate::silence::Silence;
 use cc_connections::{Address, ConnectFault, Frame, encode_frame};
-use cc_protocol::ReceivedFrames;
+use cc_policies::ReceivedFrames;
 use std::alloc::Global;
 use std::io::Write;
 use std::net::{Net, TcpStream};

@@ -6,7 +6,7 @@ use crate::report::Report;
 use crate::silence::Told;
 use crate::tally::Tally;
 use cc_command_line::{AnswerForm, LoadOrder};
-use cc_protocol::LAST_ANSWER_SECONDS;
+use cc_policies::LAST_ANSWER_SECONDS;
 use std::alloc::Global;
 use std::io::Write;
 use std::net::{Net, TcpListener, TcpStream};

@@ -7,7 +7,7 @@ use crate::status::Status;
 use crate::table::Table;
 use cc_command_line::{AnswerForm, HarmlessJson, StatusOrder};
 use cc_connections::Address;
-use cc_protocol::{REASON_SECONDS, STATUS_SECONDS};
+use cc_policies::{REASON_SECONDS, STATUS_SECONDS};
 use serde_json::Value;
 use std::alloc::Global;
 use std::io;

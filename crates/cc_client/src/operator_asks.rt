@@ -7,7 +7,7 @@ use crate::silence::{Silence, Told};
 use cc_command_line::{LeaveOrder, RetireOrder, ShareOrder};
 use cc_connections::{Address, Frame};
 use cc_messages::Refusal;
-use cc_protocol::{
+use cc_policies::{
     Lefts, OPERATOR_ANSWER_SECONDS, Objection, Outcome, ReceivedFrames, Retirement, outcome_of,
     probe_frame, share_outcome_of,
 };

@@ -9,7 +9,7 @@ use crate::silence::Told;
 use cc_command_line::AskOrder;
 use cc_messages::{Answer, Command, NumberList};
 use cc_objects::{flag_of, max_of, set_of};
-use cc_protocol::Client;
+use cc_policies::Client;
 use cc_views::{NoMemory, View};
 use std::alloc::{AllocError, Global};
 use std::io;

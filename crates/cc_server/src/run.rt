@@ -18,7 +18,7 @@ use cc_intake::{
 };
 use cc_messages::Event;
 use cc_node::Core;
-use cc_protocol::{Greeter, Recipient, Routes};
+use cc_policies::{Greeter, Recipient, Routes};
 use cc_site::{FileSite, Site};
 use cc_status::Board;
 use cc_threads::{Measured, ServerOutlet, note_opened};

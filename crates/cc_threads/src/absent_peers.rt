@@ -5,7 +5,7 @@ use cc_links::LinkRow;
 use cc_messages::Event;
 use cc_node::Core;
 use cc_ops::{Pending, Stage};
-use cc_protocol::{AskName, Calls, Parcel, Passed, SlowOperation, skip_bytes};
+use cc_policies::{AskName, Calls, Parcel, Passed, SlowOperation, skip_bytes};
 use cc_views::NodeId;
 use std::alloc::Global;
 use std::sync::Wait;

@@ -10,7 +10,7 @@ use cc_flush::{CheckpointFault, Failed, Flusher};
 use cc_intake::{Lane, Life, OfLife, Queue, Turner};
 use cc_journal::Batch;
 use cc_messages::Event;
-use cc_protocol::{CHECKPOINT_BYTES, CHECKPOINT_GROWTH_BYTES};
+use cc_policies::{CHECKPOINT_BYTES, CHECKPOINT_GROWTH_BYTES};
 use cc_site::Site;
 use cc_status::Board;
 use crossbeam_utils::sync::Parker;

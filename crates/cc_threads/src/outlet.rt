@@ -5,7 +5,7 @@ ghost use Rattle.cc_wire.specs.Messages.{message_spelling};
 
 use cc_channels::{Note, PeerChannel, Shared};
 use cc_messages::{Answer, Event, Message};
-use cc_protocol::{Due, Parcel, due_bytes, message_bytes, reply_bytes};
+use cc_policies::{Due, Parcel, due_bytes, message_bytes, reply_bytes};
 use cc_site::{Outlet, Side};
 use cc_views::NodeId;
 use std::alloc::Global;

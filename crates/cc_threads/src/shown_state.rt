@@ -6,7 +6,7 @@ use cc_channels::{Note, PeerChannel, Shared, Stranger};
 use cc_connections::{BATCH_BOUNDS, Counted};
 use cc_links::LinkRow;
 use cc_node::{Core, Node};
-use cc_protocol::AskName;
+use cc_policies::AskName;
 use cc_site::Side;
 use cc_status::{Board, DiskShown, Laid, PeerNote, Shown};
 use cc_views::{NoMemory, NodeId, Text};

@@ -8,7 +8,7 @@ use crate::own_sessions::Fate;
 use cc_client::{Deadline, receive, send};
 use cc_connections::Frame;
 use cc_messages::{Answer, Command, Refusal};
-use cc_protocol::{Client, Heard, ReceivedFrames, Step, refusal_of};
+use cc_policies::{Client, Heard, ReceivedFrames, Step, refusal_of};
 use std::alloc::Global;
 use std::net::TcpStream;
 use std::sync::Wait;

@@ -15,10 +15,10 @@ use Rattle.cc_intake.specs.Talks.{Answer, Spoke, Talks}
 use Rattle.cc_connections.specs.declared.frame.Frame.{Frame}
 use Rattle.cc_connections.specs.declared.hello.Hello.{Hello}
 use Rattle.cc_messages.specs.declared.command.Command.{Command}
-use Rattle.cc_protocol.specs.declared.response.Duty.{Duty}
-use Rattle.cc_protocol.specs.Responses.{heed_of, heed_refused}
-use Rattle.cc_protocol.specs.ReceivedFrames.{Next}
-use Rattle.cc_protocol.specs.Frames.{event_in}
+use Rattle.cc_policies.specs.declared.response.Duty.{Duty}
+use Rattle.cc_policies.specs.Responses.{heed_of, heed_refused}
+use Rattle.cc_policies.specs.ReceivedFrames.{Next}
+use Rattle.cc_policies.specs.Frames.{event_in}
 use Rattle.cc_workers.specs.declared.caller.Done.{Done}
 use Rattle.cc_workers.specs.WorkerSteps.{duty_of, brings_again, due_after, Takes, greeting_in, IsUnasked, Greets, wants_silence, Guards, Stops, Worker, Gives, Hears, Brings}
 

@@ -14,11 +14,11 @@ use Rattle.cc_connections.specs.declared.frame.Frame.TheVariants as frames
 use Rattle.cc_connections.specs.declared.hello.Hello.{Hello}
 use Rattle.cc_connections.specs.Frames.{frame_spelling, IsFrame}
 use Rattle.cc_intake.specs.Talks.{Answer}
-use Rattle.cc_protocol.specs.declared.response.Duty.{Duty}
-use Rattle.cc_protocol.specs.declared.response.Duty.TheVariants as duty
-use Rattle.cc_protocol.specs.Responses.{heed_of}
-use Rattle.cc_protocol.specs.Frames.{event_in}
-use Rattle.cc_protocol.specs.ReceivedFrames.{Next, Ends}
+use Rattle.cc_policies.specs.declared.response.Duty.{Duty}
+use Rattle.cc_policies.specs.declared.response.Duty.TheVariants as duty
+use Rattle.cc_policies.specs.Responses.{heed_of}
+use Rattle.cc_policies.specs.Frames.{event_in}
+use Rattle.cc_policies.specs.ReceivedFrames.{Next, Ends}
 use Rattle.cc_workers.specs.declared.caller.Done.{Done}
 use Rattle.cc_workers.specs.declared.caller.Done.TheVariants as done
 

@@ -15,7 +15,7 @@ use cc_connections::{Frame, Hello};
 use cc_intake::{Accepted, Hooks, Lane, Life, OfLife, Refused, Share, Source};
 use cc_messages::{Event, Refusal};
 use cc_ops::Asked;
-use cc_protocol::{
+use cc_policies::{
     Duty, Ending, Input, Objection, ReceivedFrames, event_of, objection_frame, objection_to,
     speaker_of,
 };

@@ -11,7 +11,7 @@ use cc_channels::{
 };
 use cc_connections::Hello;
 use cc_intake::{Hooks, Lane, Life, Share};
-use cc_protocol::{Access, Admitted, Ending, answer_to, greeter_after};
+use cc_policies::{Access, Admitted, Ending, answer_to, greeter_after};
 use cc_views::NodeId;
 use log::{Log, debug};
 use std::net::{SocketAddr, TcpStream};

@@ -6,7 +6,7 @@ ghost use Rattle.cc_intake.specs.Talks.{Answer, IsAnswer, Talks, places_of, Plac
 use cc_channels::{Admission, Connection, ConnectionAdmission, Shared};
 use cc_connections::Address;
 use cc_intake::{Hooks, Intake, Lane, Life, OfLife, Queue, Share, Source, work};
-use cc_protocol::Admitted;
+use cc_policies::Admitted;
 use cc_views::NodeId;
 use std::alloc::Global;
 use std::sync::{Mutex, Wait};

@@ -5,7 +5,7 @@ ghost use Rattle.cc_workers.specs.WorkerSteps.{duty_of};
 
 use cc_intake::{Accepted, Refused};
 use cc_messages::Event;
-use cc_protocol::{Duty, heed};
+use cc_policies::{Duty, heed};
 
 /// What the answer to an event asks of the worker that brought it. `differs` tells whether the event repeats its session's last
 /// request with another command.

@@ -8,7 +8,7 @@ use crate::duties::duty_of;
 use cc_channels::{Admission, Shared};
 use cc_intake::{Accepted, Hooks, Lane, Life, Refused, Source};
 use cc_messages::Event;
-use cc_protocol::Duty;
+use cc_policies::Duty;
 use cc_site::Flushed;
 use crossbeam_channel::Receiver;
 use std::sync::Wait;

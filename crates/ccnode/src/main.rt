@@ -5,7 +5,7 @@
 mod run;
 
 use cc_command_line::{LogLevel, Order, RunWords, parse};
-use cc_commands::{
+use cc_subcommands::{
     BAD_COMMAND_LINE, Lines, NotingRuntime, StandIns, ask, dump, format, leave, load, play_input,
     retire, share, status,
 };

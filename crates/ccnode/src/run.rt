@@ -3,13 +3,13 @@
 use cc_channels::Machine;
 use cc_checkpoint::OpenFault;
 use cc_command_line::{Identity, RunOrder, RunWords, VERSION, WordFault};
-use cc_commands::{
-    BAD_COMMAND_LINE, FAULT, IdentityError, Machinery, identity_of_folder, node_in_folder,
-    print_lost, print_trouble, print_unreadable, print_word_fault, random_number, wait_for_folder,
-};
 use cc_connections::{Address, Flag, Stop};
 use cc_intake::{Finished, NoHooks};
 use cc_server::{Config, RunFault, run_node};
+use cc_subcommands::{
+    BAD_COMMAND_LINE, FAULT, IdentityError, Machinery, identity_of_folder, node_in_folder,
+    print_lost, print_trouble, print_unreadable, print_word_fault, random_number, wait_for_folder,
+};
 use cc_views::NodeId;
 use cc_web::{Gateway, WebSettings, end_web, listen as listen_for_web, serve_web};
 use crossbeam_channel::bounded;

@@ -1,6 +1,6 @@
 //! What stands in the folders of nodes that earlier releases left behind.
 
-use cc_commands::{DumpScope, dump_folder};
+use cc_subcommands::{DumpScope, dump_folder};
 use std::io;
 use std::io::Write;
 

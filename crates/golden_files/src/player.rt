@@ -4,7 +4,7 @@ use crate::cases::{Case, Compared, End};
 use crate::chapter_lines::{spelled, unescaped};
 use crate::comparison::{Wrong, replies_in, two_values, wrong_lines};
 use crate::crashes::{CHECKPOINTS, CRASHES, Way, is_beside_moves, with_moves};
-use cc_commands::play;
+use cc_subcommands::play;
 use std::alloc::{AllocError, Global};
 
 /// Plays the script of a case with one of its lines, and in each way in which its nodes move: how many scripts these are, or

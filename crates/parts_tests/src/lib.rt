@@ -21,9 +21,9 @@ mod objects;
 #[cfg(test)]
 mod openings;
 #[cfg(test)]
-mod program;
+mod policies;
 #[cfg(test)]
-mod protocol;
+mod program;
 #[cfg(test)]
 mod refusals;
 #[cfg(test)]

@@ -2,10 +2,10 @@
 
 use cc_channels::ReadText;
 use cc_command_line::{FormatWords, Identity, Speech};
-use cc_commands::{FormatOrder, format_folder};
 use cc_connections::{Address, Peer, Stop};
 use cc_intake::{Finished, Hooks};
 use cc_server::{Config, RunFault, run_on};
+use cc_subcommands::{FormatOrder, format_folder};
 use cc_views::NodeId;
 use log::Log;
 use std::alloc::{AllocError, Global};

@@ -4,7 +4,7 @@
 use crate::nodes::{Place, free_place};
 use cc_channels::{Dialler, FarEnd, HelloExchange, PeerChannels, Waker, channels_to, dial_peer};
 use cc_connections::{Address, Flag, Peer};
-use cc_protocol::Parcel;
+use cc_policies::Parcel;
 use cc_views::NodeId;
 use crossbeam_utils::sync::Parker;
 use log::Log;

@@ -1,7 +1,7 @@
 //! What the disks of a cluster hold.
 
-use cc_commands::{Cluster, Played, parse};
 use cc_site::{Choice, Side, Site};
+use cc_subcommands::{Cluster, Played, parse};
 use std::process::Abort;
 
 // Lines, what they print, and whether they change what the sides of node 2 hold. Node 2 has a store of node 1, and is then

@@ -1,9 +1,9 @@
 //! Readers and writers that fail, and the texts of faults that no script meets.
 
 use cc_checkpoint::OpenFault;
-use cc_commands::{NodeFault, PlayFault, play};
 use cc_flush::{Failed, FormatFault};
 use cc_site::{Call, DeviceFault, Side};
+use cc_subcommands::{NodeFault, PlayFault, play};
 use std::io;
 use std::io::Read;
 

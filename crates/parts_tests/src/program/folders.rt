@@ -2,8 +2,8 @@
 
 use crate::program::words::{format_of, with};
 use cc_command_line::{FormatWords, WordFault};
-use cc_commands::{DumpScope, FormatOrder, dump_folder, format_folder};
 use cc_site::{FileSite, NoOutlet};
+use cc_subcommands::{DumpScope, FormatOrder, dump_folder, format_folder};
 use std::fs;
 use std::fs::{File, Files, Permissions};
 use std::os::unix::fs::PermissionsExt;

@@ -1,9 +1,9 @@
 //! What is printed of a site in memory, also where its disk calls or the output fail.
 
 use cc_command_line::FormatWords;
-use cc_commands::{DumpScope, FormatOrder, dump_site, format_site};
 use cc_flush::{Back, Flusher, format};
 use cc_site::{Choice, Failing, MemorySite, Side, write_durably};
+use cc_subcommands::{DumpScope, FormatOrder, dump_site, format_site};
 use std::process::Abort;
 
 // Two empty sides.

@@ -3,8 +3,8 @@
 use crate::program::folders::{check_format, dumped, made, member, remove};
 use crate::program::words::with;
 use cc_command_line::WordFault;
-use cc_commands::{DumpScope, Lost, Trouble, Wrong, node_in_folder};
 use cc_site::{FileSite, NoOutlet};
+use cc_subcommands::{DumpScope, Lost, Trouble, Wrong, node_in_folder};
 use cc_views::NodeId;
 use std::fs;
 use std::fs::{File, Files};

@@ -2,8 +2,8 @@
 
 use crate::program::words::{format_of, with};
 use cc_command_line::{AnswerForm, AskOrder, AskWords, CommandFault, FormatWords, WordFault};
-use cc_commands::{BadOpening, FormatOrder, Warning};
 use cc_node::OpeningRule;
+use cc_subcommands::{BadOpening, FormatOrder, Warning};
 use std::process::Abort;
 
 // A command with that value and that text is none, and just this is told of it.

@@ -5,9 +5,9 @@ use cc_command_line::{
     AnswerForm, AskOrder, AskWords, FormatWords, LeaveOrder, LogLevel, RetireOrder, RetireWords,
     RunOrder, RunWords, ShareOrder, Speech, StatusOrder, WordFault,
 };
-use cc_commands::FormatOrder;
 use cc_connections::{Address, Host};
 use cc_messages::Command;
+use cc_subcommands::FormatOrder;
 use cc_views::NodeId;
 use std::net::{IpAddr, Ipv4Addr};
 use std::process::Abort;

@@ -1,0 +1,5 @@
+use Rattle.cc_policies.proofs.RouteLaws.{kept_routes}
+use Rattle.cc_policies.proofs.routes.Routes.take_back.Goals as goal
+
+pub invariant_of-self : goal.invariant_of-self
+invariant_of-self c = rw (c.remove_route.ensures.items, c.remove_route.ensures.capacity) (kept_routes _ _ _ _ _ _ _ _ c.self.invariant _)

@@ -1,5 +1,0 @@
-use Rattle.cc_protocol.proofs.StirLaws.{no_post}
-use Rattle.cc_protocol.proofs.admission.what_needs_no_room_makes_no_post.Goals as goal
-
-pub returns : goal.returns
-returns c = no_post

@@ -1,5 +1,0 @@
-use Rattle.cc_protocol.proofs.ClientLaws.{fence_first}
-use Rattle.cc_protocol.proofs.client.a_reading_comes_first.Goals as goal
-
-pub returns : goal.returns
-returns c = fence_first

@@ -1,5 +1,0 @@
-use Rattle.cc_protocol.proofs.ClientLaws.{told_whole}
-use Rattle.cc_protocol.proofs.client.refusals_are_told.Goals as goal
-
-pub returns : goal.returns
-returns c = told_whole

@@ -1,5 +1,0 @@
-use Rattle.cc_protocol.proofs.OperatorOutcomeLaws.{objection_told_whole}
-use Rattle.cc_protocol.proofs.operator_outcome.objections_are_told.Goals as goal
-
-pub returns : goal.returns
-returns c = objection_told_whole

@@ -1,5 +1,0 @@
-use Rattle.cc_protocol.proofs.PeerHealthLaws.{only_absent}
-use Rattle.cc_protocol.proofs.peer_health.none_lapses_but_absent.Goals as goal
-
-pub returns : goal.returns
-returns c = only_absent

@@ -1,5 +1,0 @@
-use Rattle.cc_protocol.proofs.SpeakerLaws.{kept_speakers}
-use Rattle.cc_protocol.proofs.speakers.Speakers.leave.Goals as goal
-
-pub invariant_of-self : goal.invariant_of-self
-invariant_of-self c = rw (c.remove_ticket.ensures.items, c.remove_ticket.ensures.capacity) (kept_speakers _ _ c.self.invariant _)
