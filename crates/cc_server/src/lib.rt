@@ -6,6 +6,7 @@ mod config;
 mod run;
 mod run_fault;
 mod threads;
+mod worker_calls;
 
 pub use config::Config;
 pub use run::{run_node, run_on};

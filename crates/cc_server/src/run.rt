@@ -7,6 +7,7 @@ ghost use Rattle.cc_intake.specs.Intakes.{share_limit};
 use crate::config::Config;
 use crate::run_fault::RunFault;
 use crate::threads::{cut, live};
+use crate::worker_calls::WorkerCalls;
 use cc_channels::{
     Admission, Durable, Inlets, Listeners, Machine, Notice, Shared, give_notice, millis,
 };
@@ -21,9 +22,9 @@ use cc_node::Core;
 use cc_policies::{Greeter, Recipient, Routes};
 use cc_site::{FileSite, Site};
 use cc_status::Board;
-use cc_threads::{Measured, ServerOutlet, note_opened};
+use cc_threads::{CountedTurner, Measured, ServerOutlet, Turns, note_opened};
 use cc_views::{NoMemory, NodeId};
-use cc_workers::Context;
+use cc_workers::{Context, TakeTurn};
 use log::{Log, error, info};
 use std::alloc::Global;
 use std::fs::{File, Files};
@@ -157,7 +158,7 @@ where
 }
 
 // Opens the node that stands on a site, and runs it.
-fn run_on_site<R, H: Hooks + Sync, S: Site + Drop>(
+fn run_on_site<R, H: Hooks + Sync, S: Site + Drop + Send>(
     run: &Run<'_, R, H>,
     site: S,
     listener: Option<TcpListener>,
@@ -181,7 +182,7 @@ where
 }
 
 // Runs a node whose folder is open.
-fn run_opened<R, H: Hooks + Sync, S: Site + Drop>(
+fn run_opened<R, H: Hooks + Sync, S: Site + Drop + Send>(
     run: &Run<'_, R, H>,
     listener: Option<TcpListener>,
     inlets: Inlets,
@@ -371,7 +372,7 @@ fn place_of(listener: &TcpListener) -> Option<Address> {
 }
 
 // Lives the life that begins with the node that was opened. Its premises are those of `start`.
-fn run_as<L: Life + Send + Sync, S: Site + Drop, R, H: Hooks + Sync>(
+fn run_as<L: Life + Send + Sync, S: Site + Drop + Send, R, H: Hooks + Sync>(
     run: &Run<'_, R, H>,
     ready: Ready<S>,
     blank: Blank,
@@ -394,7 +395,7 @@ where
     run_at::<L, Brand, S, R, H>(run, ready, blank, ends)
 }
 
-fn run_at<L: Life + Send + Sync, Q: Lane + Send + Sync, S: Site + Drop, R, H: Hooks + Sync>(
+fn run_at<L: Life + Send + Sync, Q: Lane + Send + Sync, S: Site + Drop + Send, R, H: Hooks + Sync>(
     run: &Run<'_, R, H>,
     ready: Ready<S>,
     blank: Blank,
@@ -440,10 +441,13 @@ struct Begun<S: Site, L: Life, Q: Lane> {
 }
 
 // From here on the count 0 alone is known as durable; each later one comes from a turn.
-fn run_begun<L: Life + Send + Sync, Q: Lane + Send + Sync, S: Site + Drop, R, H: Hooks + Sync>(
-    run: &Run<'_, R, H>,
-    begun: Begun<S, L, Q>,
-) -> Result<Finished<()>, RunFault>
+fn run_begun<
+    L: Life + Send + Sync,
+    Q: Lane + Send + Sync,
+    S: Site + Drop + Send,
+    R,
+    H: Hooks + Sync,
+>(run: &Run<'_, R, H>, begun: Begun<S, L, Q>) -> Result<Finished<()>, RunFault>
 where
     R: Machine,
     requires none { L.flushed 0 }
@@ -457,30 +461,114 @@ where
         return Err(RunFault::NoMemory);
     };
     admission.turned(run.rt, 0, Durable::new(0), begun.turner.engine().twin());
-    let outcome = run_admitted(run, begun, shares, &admission);
+    let outcome = run_admitted(&*run, begun, shares, &admission);
     drop(admission);
     outcome
 }
 
-fn run_admitted<L: Life + Send + Sync, Q: Lane + Send + Sync, S: Site + Drop, R, H: Hooks + Sync>(
-    run: &Run<'_, R, H>,
+fn run_admitted<
+    'a,
+    L: Life + Send + Sync,
+    Q: Lane + Send + Sync,
+    S: Site + Drop + Send,
+    R,
+    H: Hooks + Sync,
+>(
+    run: &'a Run<'a, R, H>,
     begun: Begun<S, L, Q>,
     shares: Vec<Share<L>>,
-    admission: &Admission<OfLife<L>>,
+    admission: &'a Admission<OfLife<L>>,
 ) -> Result<Finished<()>, RunFault>
 where
     R: Machine,
 {
     let Begun {
         intake,
-        mut turner,
+        turner,
         queue,
         listeners,
         inlets,
     } = begun;
-    let me = turner.engine().twin().core().me();
+    let engine = Mutex::new(CountedTurner::new(turner));
     let lock = Mutex::new(intake);
     let shares = Mutex::new(shares);
+    let locked = Locked {
+        engine: &engine,
+        lock: &lock,
+        shares: &shares,
+        queue: &queue,
+        admission: &*admission,
+        listeners: &listeners,
+    };
+    let outcome = run_locked(&*run, locked, inlets);
+    drop(listeners);
+    let finished = finish(
+        run.rt,
+        lock.into_inner(),
+        shares.into_inner(),
+        engine.into_inner().turner,
+        queue,
+    );
+    came_to(without_site(finished), outcome)
+}
+
+// What the threads of a life share.
+#[derive(Drop)]
+struct Locked<'x, S: Site, L: Life, Q: Lane> {
+    engine: &'x Mutex<CountedTurner<S, L, Q>>,
+    lock: &'x Mutex<Intake<L, Q>>,
+    shares: &'x Mutex<Vec<Share<L>>>,
+    queue: &'x Queue<L, Q>,
+    admission: &'x Admission<OfLife<L>>,
+    listeners: &'x Listeners,
+}
+
+// Lets flusher and workers take turns.
+fn run_locked<
+    'x,
+    L: Life + Send + Sync,
+    Q: Lane + Send + Sync,
+    S: Site + Drop + Send,
+    R,
+    H: Hooks + Sync,
+>(run: &'x Run<'x, R, H>, locked: Locked<'x, S, L, Q>, inlets: Inlets) -> Option<Result<(), Failed>>
+where
+    R: Machine,
+{
+    let turns = Turns {
+        rt: run.rt,
+        engine: locked.engine,
+        queue: locked.queue,
+        admission: locked.admission,
+        shared: run.shared,
+    };
+    let calls = WorkerCalls {
+        hooks: run.hooks,
+        turns: &turns,
+    };
+    serve(run, &locked, &turns, &calls, inlets)
+}
+
+// Starts the threads, with these calls for the workers.
+fn serve<
+    'x,
+    L: Life + Send + Sync,
+    Q: Lane + Send + Sync,
+    S: Site + Drop + Send,
+    R,
+    H,
+    T: TakeTurn + Sync,
+>(
+    run: &'x Run<'x, R, H>,
+    locked: &'x Locked<'x, S, L, Q>,
+    turns: &'x Turns<'x, S, L, Q, R>,
+    calls: &'x T,
+    inlets: Inlets,
+) -> Option<Result<(), Failed>>
+where
+    R: Machine,
+{
+    let me = locked.engine.lock(run.rt).me();
     let context = Context {
         rt: run.rt,
         alloc: run.alloc,
@@ -489,25 +577,16 @@ where
         listen: run.config.listen,
         listen_clients: run.config.listen_clients,
         peers_file: run.config.peers_file,
-        hooks: run.hooks,
+        turns: calls,
         remote_operators: run.config.remote_operators,
         shared: run.shared,
-        admission,
-        lock: &lock,
-        queue: &queue,
-        shares: &shares,
+        admission: locked.admission,
+        lock: locked.lock,
+        queue: locked.queue,
+        shares: locked.shares,
     };
-    let (watch, far_ends) = cut(inlets, run.alloc, run.shared, run.board.as_ref());
-    let outcome = live(&context, &mut turner, watch, far_ends, &listeners, run.stop);
-    drop(listeners);
-    let finished = finish(
-        run.rt,
-        lock.into_inner(),
-        shares.into_inner(),
-        turner,
-        queue,
-    );
-    came_to(without_site(finished), outcome)
+    let (watch, ends) = cut(inlets, run.alloc, run.shared, run.board.as_ref());
+    live(&context, turns, watch, ends, locked.listeners, run.stop)
 }
 
 // What a run came to, unless it failed.

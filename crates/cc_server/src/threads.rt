@@ -3,17 +3,16 @@
 ghost use Rattle.std.specs.Thread.{IsSend};
 
 use cc_channels::{
-    Admission, Dialler, FarEnd, Inlets, Listeners, Machine, Note, Port, Shared, dial_peer,
-    write_notes,
+    Dialler, FarEnd, Inlets, Listeners, Machine, Note, Port, Shared, dial_peer, write_notes,
 };
 use cc_connections::{Flag, Stop};
 use cc_flush::Failed;
-use cc_intake::{Hooks, Lane, Life, OfLife, Queue, Turner};
+use cc_intake::{Lane, Life};
 use cc_messages::Event;
 use cc_site::Site;
 use cc_status::Board;
-use cc_threads::{Follower, Watch, flush_all, follow_peers, show_until, tick_until};
-use cc_workers::{Context, attend, serve_own};
+use cc_threads::{Follower, Turns, Watch, flush_all, follow_peers, show_until, tick_until};
+use cc_workers::{Context, TakeTurn, attend, serve_own};
 use crossbeam_channel::Receiver;
 use std::alloc::Global;
 use std::net::TcpListener;
@@ -58,9 +57,9 @@ pub fn cut<'x>(
 
 /// Starts the ticker and what serves, flushes in this thread until all is done, and ends them. None where a thread can't be
 /// made.
-pub fn live<'x, L: Life + Send + Sync, Q: Lane + Send + Sync, S: Site, R, H: Hooks + Sync>(
-    context: &'x Context<'x, R, H, L, Q>,
-    turner: &'x mut Turner<S, L, Q>,
+pub fn live<'x, 't, L: Life + Send + Sync, Q: Lane + Send + Sync, S: Site, R, T: TakeTurn + Sync>(
+    context: &'x Context<'x, R, T, L, Q>,
+    turns: &'x Turns<'t, S, L, Q, R>,
     watch: Watch<'x>,
     ends: FarEnds,
     listeners: &'x Listeners,
@@ -70,10 +69,8 @@ where
     R: Machine,
 {
     let rt = context.rt;
-    let queue = context.queue;
     let shared = context.shared;
     let admission = context.admission;
-    let turner = &mut *turner;
     thread::scope(
         thread::scope_env(),
         rt,
@@ -93,7 +90,7 @@ where
                 shared.done.set();
                 return None;
             };
-            let outcome = flush_until(rt, turner, queue, admission, &watch);
+            let outcome = flush_until(turns, &watch);
             let is_served = server.join(rt);
             match outcome {
                 Ok(()) if !is_served => None,
@@ -105,21 +102,18 @@ where
 
 // Flushes, and has all end where that fails.
 fn flush_until<S: Site, L: Life, Q: Lane, R: Wait + Clock>(
-    rt: &R,
-    turner: &mut Turner<S, L, Q>,
-    queue: &Queue<L, Q>,
-    admission: &Admission<OfLife<L>>,
+    turns: &Turns<'_, S, L, Q, R>,
     watch: &Watch<'_>,
 ) -> Result<(), Failed> {
-    let outcome = flush_all(rt, turner, queue, admission, watch);
+    let outcome = flush_all(turns, watch);
     watch.shared.ended.set();
-    admission.close(rt);
+    turns.admission.close(turns.rt);
     outcome
 }
 
 // Serves until a flag is set, and then tells the flusher that nothing more comes. Whether it served.
-fn serve_until<L: Life + Send + Sync, Q: Lane + Send + Sync, R, H: Hooks + Sync>(
-    context: &Context<'_, R, H, L, Q>,
+fn serve_until<L: Life + Send + Sync, Q: Lane + Send + Sync, R, T: TakeTurn + Sync>(
+    context: &Context<'_, R, T, L, Q>,
     ends: FarEnds,
     listeners: &Listeners,
     stop: &Stop,
@@ -136,8 +130,8 @@ where
 // Starts the diallers, the worker of the own messages and the acceptor for clients, accepts connections until a flag is set,
 // and then ends the diallers first and the workers next. False, and nothing is accepted, where a thread of these can't
 // be made.
-fn serve_all<L: Life + Send + Sync, Q: Lane + Send + Sync, R, H: Hooks + Sync>(
-    context: &Context<'_, R, H, L, Q>,
+fn serve_all<L: Life + Send + Sync, Q: Lane + Send + Sync, R, T: TakeTurn + Sync>(
+    context: &Context<'_, R, T, L, Q>,
     ends: FarEnds,
     listeners: &Listeners,
     stop: &Stop,
@@ -192,9 +186,9 @@ where
 
 // Starts the worker of the own messages, the writer of notes, and what follows the file of the peers until the flag is set.
 // Whether all threads could be made.
-fn start_inner<'s, 'e: 's, L: Life + Send + Sync, Q: Lane + Send + Sync, R, H: Hooks + Sync>(
+fn start_inner<'s, 'e: 's, L: Life + Send + Sync, Q: Lane + Send + Sync, R, T: TakeTurn + Sync>(
     scope: &'s Scope<'s, &'e ()>,
-    context: &'e Context<'e, R, H, L, Q>,
+    context: &'e Context<'e, R, T, L, Q>,
     own: Receiver<Option<Event>>,
     notes: Receiver<Option<Note>>,
     dialler: &'e Dialler<'e>,
@@ -214,8 +208,8 @@ where
 }
 
 // Follows the file of the peers until the flag is set, if there is one.
-fn follow<L: Life, Q: Lane, R, H: Hooks + Sync>(
-    context: &Context<'_, R, H, L, Q>,
+fn follow<L: Life, Q: Lane, R, T: TakeTurn + Sync>(
+    context: &Context<'_, R, T, L, Q>,
     dialler: &Dialler<'_>,
 )
 where
@@ -236,9 +230,9 @@ where
 
 // Starts what accepts connections to the port for clients, if there is one and all others were started: only a flag ends it.
 // Whether all threads could be made.
-fn start_clients<'s, 'e: 's, L: Life + Send + Sync, Q: Lane + Send + Sync, R, H: Hooks + Sync>(
+fn start_clients<'s, 'e: 's, L: Life + Send + Sync, Q: Lane + Send + Sync, R, T: TakeTurn + Sync>(
     scope: &'s Scope<'s, &'e ()>,
-    context: &'e Context<'e, R, H, L, Q>,
+    context: &'e Context<'e, R, T, L, Q>,
     listeners: &'e Listeners,
     stop: &'e Stop,
     is_whole: bool,
@@ -258,8 +252,8 @@ where
 }
 
 // Accepts connections to the port for clients until a flag is set, and waits for their workers.
-fn serve_clients<L: Life + Send + Sync, Q: Lane + Send + Sync, R, H: Hooks + Sync>(
-    context: &Context<'_, R, H, L, Q>,
+fn serve_clients<L: Life + Send + Sync, Q: Lane + Send + Sync, R, T: TakeTurn + Sync>(
+    context: &Context<'_, R, T, L, Q>,
     listener: &TcpListener,
     stop: &Stop,
 )
@@ -278,9 +272,9 @@ where
     );
 }
 
-fn accept_all<'s, 'e: 's, L: Life + Send + Sync, Q: Lane + Send + Sync, R, H: Hooks + Sync>(
+fn accept_all<'s, 'e: 's, L: Life + Send + Sync, Q: Lane + Send + Sync, R, T: TakeTurn + Sync>(
     scope: &'s Scope<'s, &'e ()>,
-    context: &'e Context<'e, R, H, L, Q>,
+    context: &'e Context<'e, R, T, L, Q>,
     listener: &TcpListener,
     port: Port,
     stop: &Stop,

@@ -5,9 +5,10 @@ ghost use Rattle.cc_flush.specs.Engine.{held_of};
 
 use crate::absent_peers::{Looks, look, tell_withheld};
 use crate::shown_state::{Tally, pass_second};
-use cc_channels::{Admission, Durable, Note, Shared, millis};
+use crate::turns::{CountedTurner, Turns};
+use cc_channels::{Admission, Note, Shared, millis};
 use cc_flush::{CheckpointFault, Failed, Flusher};
-use cc_intake::{Lane, Life, OfLife, Queue, Turner};
+use cc_intake::{Lane, Life, OfLife, Turner};
 use cc_journal::Batch;
 use cc_messages::Event;
 use cc_policies::{CHECKPOINT_BYTES, CHECKPOINT_GROWTH_BYTES};
@@ -31,65 +32,99 @@ pub struct Watch<'x> {
     pub board: Option<&'x Board>,
 }
 
+// What the flusher remembers from one time that it was woken to the next.
+#[derive(Drop)]
+struct Seen {
+    looks: Looks,
+    // How many bytes the side in use held when it was begun, and how many events had been flushed then.
+    begun: u64,
+    flushed: u64,
+}
+
 /// Takes a turn each time that it is woken, and more where one batch didn't take all that waited, until nothing is left after `done`
 /// was set. What nobody woke it for waits for the next turn. At its start it sends itself what earlier lives left unacknowledged, and
 /// each peer as soon as that is connected to. After each turn it writes to the peers and looks what lapses, and at each tick how the
-/// peers stand.
+/// peers stand. While it does so no worker takes a turn.
 pub fn flush_all<S: Site, L: Life, Q: Lane, R: Wait + Clock>(
-    rt: &R,
-    turner: &mut Turner<S, L, Q>,
-    queue: &Queue<L, Q>,
-    admission: &Admission<OfLife<L>>,
+    turns: &Turns<'_, S, L, Q, R>,
     watch: &Watch<'_>,
 ) -> Result<(), Failed> {
-    let shared = watch.shared;
-    let me = turner.engine().twin().core().me();
-    let mut is_fresh = true;
-    // The node was opened by being written anew.
-    let mut begun = turner.engine().held();
-    let mut looks = Looks::new();
-    let mut tally = tally_of(turner.engine());
-    send_kept(rt, turner, watch)?;
-    for _ in rt.forever() {
-        let is_done = shared.done.is_set();
-        shared.waker.look();
-        if shared.waker.take_connected() {
-            send_kept(rt, turner, watch)?;
-        }
-        let events = turn(rt, turner, queue, admission)?;
-        if events > 0 {
-            shared.channels.write(rt, me);
-            tally.commit(events);
-        }
-        let is_wished = grant_all(rt, turner, admission, shared)?;
-        is_fresh &= events == 0;
-        let is_tick = shared.ticked.take();
-        if is_tick {
-            shared.channels.mute(rt);
-            resend(rt, turner, watch)?;
-            if !is_fresh {
-                is_fresh = spare(rt, turner, shared, &mut tally, &mut begun)?;
-            }
-            show(rt, turner.engine(), watch, &mut tally);
-            enter(rt, turner, shared);
-        }
-        look(
-            rt,
-            turner.engine().twin().core(),
-            shared,
-            &mut looks,
-            is_tick,
-        );
-        shared.channels.write(rt, me);
-        if events >= Batch::MAX_ENTRIES as u64 || turner.keeps_one() || is_wished {
+    let mut seen = begin(turns, watch)?;
+    for _ in turns.rt.forever() {
+        let is_done = watch.shared.done.is_set();
+        if pass(turns, watch, &mut seen)? {
             continue;
         }
         if is_done {
             return Ok(());
         }
-        watch.parker.park(rt);
+        watch.parker.park(turns.rt);
     }
     unreachable!()
+}
+
+// Sends itself what earlier lives left. The node was opened by being written anew, so the side in use holds its state alone.
+fn begin<S: Site, L: Life, Q: Lane, R: Wait>(
+    turns: &Turns<'_, S, L, Q, R>,
+    watch: &Watch<'_>,
+) -> Result<Seen, Failed> {
+    let mut guard = turns.engine.lock(turns.rt);
+    let engine = &mut *guard;
+    send_kept(turns.rt, &mut engine.turner, watch)?;
+    Ok(Seen {
+        looks: Looks::new(),
+        begun: engine.turner.engine().held(),
+        flushed: engine.turner.handed(),
+    })
+}
+
+// Does once what the flusher is woken for. Whether more may be left.
+fn pass<S: Site, L: Life, Q: Lane, R: Wait + Clock>(
+    turns: &Turns<'_, S, L, Q, R>,
+    watch: &Watch<'_>,
+    seen: &mut Seen,
+) -> Result<bool, Failed> {
+    let mut guard = turns.engine.lock(turns.rt);
+    pass_over(turns, watch, seen, &mut guard)
+}
+
+fn pass_over<S: Site, L: Life, Q: Lane, R: Wait + Clock>(
+    turns: &Turns<'_, S, L, Q, R>,
+    watch: &Watch<'_>,
+    seen: &mut Seen,
+    engine: &mut CountedTurner<S, L, Q>,
+) -> Result<bool, Failed> {
+    let (rt, shared) = (turns.rt, watch.shared);
+    if shared.waker.take_connected() {
+        send_kept(rt, &mut engine.turner, watch)?;
+    }
+    let events = turns.turn(engine)?;
+    let is_wished = grant_all(rt, &mut engine.turner, turns.admission, shared)?;
+    let is_tick = shared.ticked.take();
+    if is_tick {
+        tick(rt, watch, seen, engine)?;
+    }
+    let core = engine.turner.engine().twin().core();
+    look(rt, core, shared, &mut seen.looks, is_tick);
+    shared.channels.write(rt, core.me());
+    Ok(events >= Batch::MAX_ENTRIES as u64 || engine.turner.keeps_one() || is_wished)
+}
+
+// A second has passed.
+fn tick<S: Site, L: Life, Q: Lane, R: Wait + Clock>(
+    rt: &R,
+    watch: &Watch<'_>,
+    seen: &mut Seen,
+    engine: &mut CountedTurner<S, L, Q>,
+) -> Result<(), Failed> {
+    watch.shared.channels.mute(rt);
+    resend(rt, &mut engine.turner, watch)?;
+    if engine.turner.handed() > seen.flushed {
+        move_if_long(rt, watch.shared, seen, engine)?;
+    }
+    show(rt, engine.turner.engine(), watch, &mut engine.tally);
+    enter(rt, &engine.turner, watch.shared);
+    Ok(())
 }
 
 // Sends again what wasn't acknowledged, to the peers that were connected to since the last call: who lacks a post refuses each
@@ -120,12 +155,6 @@ fn resend<S: Site, L: Life, Q: Lane, R: Wait>(
     Ok(())
 }
 
-// What an engine begins with that was opened.
-fn tally_of<S: Site>(engine: &Flusher<S>) -> Tally {
-    let opened = engine.opened();
-    Tally::new(opened.records, opened.events, engine.twin().core())
-}
-
 // A second has passed for the node of an engine.
 fn show<S: Site, R: Wait>(rt: &R, engine: &Flusher<S>, watch: &Watch<'_>, tally: &mut Tally) {
     let disk = tally.disk(engine.side(), engine.generation(), engine.held());
@@ -138,21 +167,6 @@ fn enter<S: Site, L: Life, Q: Lane, R: Wait>(rt: &R, turner: &Turner<S, L, Q>, s
     if !core.churn().has_entered(core.me()) {
         shared.own.put(rt, Event::Enter);
     }
-}
-
-// A turn. How many events it flushed, whose permits are free then.
-fn turn<S: Site, L: Life, Q: Lane, R: Wait>(
-    rt: &R,
-    turner: &mut Turner<S, L, Q>,
-    queue: &Queue<L, Q>,
-    admission: &Admission<OfLife<L>>,
-) -> Result<u64, Failed> {
-    let events = turner.turn(rt, queue)?.events as u64;
-    if events > 0 {
-        let flushed = Durable::new(turner.handed());
-        admission.turned(rt, events, flushed, turner.engine().twin());
-    }
-    Ok(events)
 }
 
 // Grants wishes that wait, and tells who waits for that. Whether there may be more.
@@ -201,34 +215,31 @@ fn holds_plenty<S: Site>(engine: &Flusher<S>, begun: u64) -> bool
     held > CHECKPOINT_BYTES && held.saturating_sub(begun) > CHECKPOINT_GROWTH_BYTES
 }
 
-// Moves to the other side where the one in use holds plenty, and much more than was `begun`. Whether it was moved.
-fn spare<S: Site, L: Life, Q: Lane, R: Wait + Clock>(
+// Moves to the other side where the one in use holds plenty, and much more than when it was begun. From then on, or where it never
+// can again, it waits for further events.
+fn move_if_long<S: Site, L: Life, Q: Lane, R: Wait + Clock>(
     rt: &R,
-    turner: &mut Turner<S, L, Q>,
     shared: &Shared,
-    tally: &mut Tally,
-    begun: &mut u64,
-) -> Result<bool, Failed> {
-    if !holds_plenty(turner.engine(), *begun) {
-        return Ok(false);
+    seen: &mut Seen,
+    engine: &mut CountedTurner<S, L, Q>,
+) -> Result<(), Failed> {
+    let turner = &mut engine.turner;
+    if !holds_plenty(turner.engine(), seen.begun) {
+        return Ok(());
     }
     let start = millis(rt);
     let moved = turner.checkpoint();
-    *begun = turner.engine().held();
+    seen.begun = turner.engine().held();
+    seen.flushed = turner.handed();
     match moved {
         Ok(()) => {
-            tally.move_over();
+            engine.tally.move_over();
             let millis = millis(rt).saturating_sub(start);
-            shared.notes.put(
-                rt,
-                Note::Moved {
-                    bytes: *begun,
-                    millis,
-                },
-            );
-            Ok(true)
+            let bytes = seen.begun;
+            shared.notes.put(rt, Note::Moved { bytes, millis });
+            Ok(())
         }
-        Err(CheckpointFault::Spent) => Ok(true),
+        Err(CheckpointFault::Spent) => Ok(()),
         Err(CheckpointFault::Failed(failed)) => Err(failed),
     }
 }

@@ -11,6 +11,7 @@ mod pages;
 mod peers_file;
 mod shown_state;
 mod ticker;
+mod turns;
 
 pub use absent_peers::{Looks, look, tell_withheld};
 pub use flusher_thread::{Watch, flush_all};
@@ -21,3 +22,4 @@ pub use pages::show_until;
 pub use peers_file::{Follower, follow_peers};
 pub use shown_state::{Tally, pass_second};
 pub use ticker::tick_until;
+pub use turns::{CountedTurner, Turns};

@@ -7,12 +7,13 @@ ghost use Rattle.cc_workers.specs.WorkerSteps.{brings_again, greeting_in, wants_
 use crate::context::Context;
 use crate::duties::duty_of;
 use crate::replies::Replies;
+use crate::take_turn::TakeTurn;
 use cc_channels::{
     Admission, Admit, HeardNodes, Instruction, NotAdmitted, Notice, Shared, Verdict, bytes_of,
     give_notice,
 };
 use cc_connections::{Frame, Hello};
-use cc_intake::{Accepted, Hooks, Lane, Life, OfLife, Refused, Share, Source};
+use cc_intake::{Accepted, Lane, Life, OfLife, Refused, Share, Source};
 use cc_messages::{Event, Refusal};
 use cc_ops::Asked;
 use cc_policies::{
@@ -43,8 +44,9 @@ pub enum Done {
 
 /// The events of one connection, and where their answers go.
 #[derive(Drop)]
-pub struct Caller<'a, R: Wait, I: Input, S: Admit, D: Replies, F: Flushed> {
+pub struct Caller<'a, R: Wait, T: TakeTurn, I: Input, S: Admit, D: Replies, F: Flushed> {
     rt: &'a R,
+    turns: &'a T,
     alloc: Global,
     shared: &'a Shared,
     admission: &'a Admission<F>,
@@ -65,7 +67,15 @@ pub struct Caller<'a, R: Wait, I: Input, S: Admit, D: Replies, F: Flushed> {
     done: Done,
 }
 
-impl<R: Wait + Log, I: Input, S: Admit, D: Replies, F: Flushed> Caller<'_, R, I, S, D, F> {
+impl<R, T, I, S, D, F> Caller<'_, R, T, I, S, D, F>
+where
+    R: Wait + Log,
+    T: TakeTurn,
+    I: Input,
+    S: Admit,
+    D: Replies,
+    F: Flushed,
+{
     // The event that comes next, or why none does.
     fn event(&mut self) -> Result<Event, Done>
         ensures comes { MatchResult result
@@ -245,7 +255,7 @@ impl<R: Wait + Log, I: Input, S: Admit, D: Replies, F: Flushed> Caller<'_, R, I,
         ensures { result ≡ brings_again duty }
     {
         match duty {
-            Duty::Wake => self.shared.waker.wake(),
+            Duty::Wake => self.turns.take_turn(),
             Duty::Defer => self.shared.waker.defer(),
             Duty::Nothing => {}
             Duty::Reack(peer) => self.shared.reack(self.rt, peer),
@@ -262,8 +272,15 @@ impl<R: Wait + Log, I: Input, S: Admit, D: Replies, F: Flushed> Caller<'_, R, I,
     }
 }
 
-impl<R: Wait + Log, I: Input, S: Admit, D: Replies, F: Flushed> Source
-    for Caller<'_, R, I, S, D, F> {
+impl<R, T, I, S, D, F> Source for Caller<'_, R, T, I, S, D, F>
+where
+    R: Wait + Log,
+    T: TakeTurn,
+    I: Input,
+    S: Admit,
+    D: Replies,
+    F: Flushed,
+{
     ghost use Rattle.cc_workers.specs.WorkerSteps.{Gives, Hears};
 
     ghost gives = { λ s e t. Gives I.may_fail S.may_turn_away
@@ -353,8 +370,8 @@ fn verdict_of(why: Refusal) -> Verdict {
 /// each answer is the intake's to that very event, and the share counts those that were accepted. It tells why it ended: that
 /// a read failed only where one can, and that an event was turned away only where one can be. What came behind the last frame is
 /// dropped.
-pub fn serve<R: Wait + Log, H: Hooks, L: Life, Q: Lane, I: Input + Drop, S: Admit, D: Replies>(
-    context: &Context<'_, R, H, L, Q>,
+pub fn serve<R: Wait + Log, T: TakeTurn, L: Life, Q: Lane, I: Input + Drop, S: Admit, D: Replies>(
+    context: &Context<'_, R, T, L, Q>,
     admitting: &S,
     connection: &D,
     ticket: u64,
@@ -371,6 +388,7 @@ pub fn serve<R: Wait + Log, H: Hooks, L: Life, Q: Lane, I: Input + Drop, S: Admi
     };
     let mut caller = Caller {
         rt: context.rt,
+        turns: context.turns,
         alloc,
         shared: context.shared,
         admission: context.admission,

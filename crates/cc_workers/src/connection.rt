@@ -5,12 +5,13 @@ ghost use Rattle.cc_workers.specs.WorkerSteps.{IsTaken};
 
 use crate::caller::{Done, serve};
 use crate::context::Context;
+use crate::take_turn::TakeTurn;
 use cc_channels::{
     Connection, NotAdmitted, Port, Shared, TimedInput, Visitor, admit, bound_of, bytes_of,
     connection_over, patience_of, write_out,
 };
 use cc_connections::Hello;
-use cc_intake::{Hooks, Lane, Life, Share};
+use cc_intake::{Lane, Life, Share};
 use cc_policies::{Access, Admitted, Ending, answer_to, greeter_after};
 use cc_views::NodeId;
 use log::{Log, debug};
@@ -24,8 +25,8 @@ use std::time::Clock;
 const TARGET: &str = "cc_workers::attending";
 
 /// Serves a connection from that address to that port, with a writer of its own.
-pub fn attend<L: Life + Send + Sync, Q: Lane + Send + Sync, R, H: Hooks + Sync>(
-    context: &Context<'_, R, H, L, Q>,
+pub fn attend<L: Life + Send + Sync, Q: Lane + Send + Sync, R, T: TakeTurn + Sync>(
+    context: &Context<'_, R, T, L, Q>,
     stream: TcpStream,
     from: SocketAddr,
     port: Port,
@@ -92,8 +93,8 @@ fn note_visit<R: Log>(rt: &R, me: NodeId, from: SocketAddr, visit: Visit) {
 
 // Serves with a share out of the pool, or a new one. Who says that nothing more comes is answered all the same. The connection is
 // let go at the end, and so the channel to the writer, which then ends. Until then it counts among those that are open.
-fn serve_in<R: Wait + Clock + Log, H: Hooks, L: Life, Q: Lane>(
-    context: &Context<'_, R, H, L, Q>,
+fn serve_in<R: Wait + Clock + Log, T: TakeTurn, L: Life, Q: Lane>(
+    context: &Context<'_, R, T, L, Q>,
     connection: Arc<Connection>,
     admitted: Admitted,
     from: SocketAddr,
@@ -122,8 +123,8 @@ fn serve_in<R: Wait + Clock + Log, H: Hooks, L: Life, Q: Lane>(
 }
 
 // Why no further event came. None where there is no share.
-fn serve_out<R: Wait + Clock + Log, H: Hooks, L: Life, Q: Lane>(
-    context: &Context<'_, R, H, L, Q>,
+fn serve_out<R: Wait + Clock + Log, T: TakeTurn, L: Life, Q: Lane>(
+    context: &Context<'_, R, T, L, Q>,
     connection: &Connection,
     admitted: Admitted,
     from: SocketAddr,
@@ -139,8 +140,8 @@ fn serve_out<R: Wait + Clock + Log, H: Hooks, L: Life, Q: Lane>(
 
 // Serves what comes before a greeting, and what comes behind it where the node is taken that greets. One greets once over a
 // connection, and sends nothing behind its greeting before that is answered.
-fn converse<'x, R: Wait + Clock + Log, H: Hooks, L: Life, Q: Lane>(
-    context: &'x Context<'x, R, H, L, Q>,
+fn converse<'x, R: Wait + Clock + Log, T: TakeTurn, L: Life, Q: Lane>(
+    context: &'x Context<'x, R, T, L, Q>,
     connection: &'x Connection,
     admitted: Admitted,
     from: SocketAddr,
@@ -160,8 +161,8 @@ fn converse<'x, R: Wait + Clock + Log, H: Hooks, L: Life, Q: Lane>(
 }
 
 // The node that greets, where a worker ended by that, and it is taken: over a connection that may bring what nodes send.
-fn greeter_by<R: Wait + Log, H: Hooks, L: Life, Q: Lane>(
-    context: &Context<'_, R, H, L, Q>,
+fn greeter_by<R: Wait + Log, T: TakeTurn, L: Life, Q: Lane>(
+    context: &Context<'_, R, T, L, Q>,
     connection: &Connection,
     admitted: Admitted,
     done: &Done,
@@ -176,8 +177,8 @@ fn greeter_by<R: Wait + Log, H: Hooks, L: Life, Q: Lane>(
 }
 
 // Answers a greeting that comes over a connection. The node that greets, where it is taken.
-fn receive<R: Wait + Log, H: Hooks, L: Life, Q: Lane>(
-    context: &Context<'_, R, H, L, Q>,
+fn receive<R: Wait + Log, T: TakeTurn, L: Life, Q: Lane>(
+    context: &Context<'_, R, T, L, Q>,
     connection: &Connection,
     hello: &Hello,
     from: SocketAddr,

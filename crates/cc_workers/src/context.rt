@@ -3,9 +3,10 @@
 ghost use Rattle.std.specs.Prelude.{◌≡◌, ◌+◌, List, None};
 ghost use Rattle.cc_intake.specs.Talks.{Answer, IsAnswer, Talks, places_of, PlacesRise};
 
+use crate::take_turn::TakeTurn;
 use cc_channels::{Admission, Connection, ConnectionAdmission, Shared};
 use cc_connections::Address;
-use cc_intake::{Hooks, Intake, Lane, Life, OfLife, Queue, Share, Source, work};
+use cc_intake::{Intake, Lane, Life, OfLife, Queue, Share, Source, work};
 use cc_policies::Admitted;
 use cc_views::NodeId;
 use std::alloc::Global;
@@ -13,7 +14,7 @@ use std::sync::{Mutex, Wait};
 
 /// What all workers share.
 #[derive(Drop)]
-pub struct Context<'x, R: Wait, H: Hooks, L: Life, Q: Lane> {
+pub struct Context<'x, R: Wait, T: TakeTurn, L: Life, Q: Lane> {
     pub rt: &'x R,
     pub alloc: Global,
     pub me: NodeId,
@@ -24,7 +25,8 @@ pub struct Context<'x, R: Wait, H: Hooks, L: Life, Q: Lane> {
     pub listen_clients: Option<Address>,
     /// The file of the peers, if there is one.
     pub peers_file: Option<&'x str>,
-    pub hooks: &'x H,
+    /// What is called round each accept, and takes a turn behind it.
+    pub turns: &'x T,
     /// Whether the operator's requests are taken that come from other machines.
     pub remote_operators: bool,
     pub shared: &'x Shared,
@@ -34,7 +36,7 @@ pub struct Context<'x, R: Wait, H: Hooks, L: Life, Q: Lane> {
     pub shares: &'x Mutex<Vec<Share<L>>>,
 }
 
-impl<R: Wait, H: Hooks, L: Life, Q: Lane> Context<'_, R, H, L, Q> {
+impl<R: Wait, T: TakeTurn, L: Life, Q: Lane> Context<'_, R, T, L, Q> {
     /// A share out of the pool, or a new one.
     pub fn draw(&self) -> Option<Share<L>> {
         let pooled = self.shares.lock(self.rt).pop();
@@ -75,7 +77,7 @@ impl<R: Wait, H: Hooks, L: Life, Q: Lane> Context<'_, R, H, L, Q> {
             × (share.new ≡ share.old + places_of answers) × PlacesRise share.old answers }
     {
         work(
-            self.rt, self.alloc, self.lock, self.queue, share, self.hooks, source,
+            self.rt, self.alloc, self.lock, self.queue, share, self.turns, source,
         );
     }
 

@@ -7,6 +7,7 @@ mod context;
 mod duties;
 mod own;
 mod replies;
+mod take_turn;
 
 pub use caller::{Done, serve};
 pub use connection::attend;
@@ -14,3 +15,4 @@ pub use context::Context;
 pub use duties::duty_of;
 pub use own::serve_own;
 pub use replies::Replies;
+pub use take_turn::TakeTurn;

@@ -5,8 +5,9 @@ ghost use Rattle.cc_workers.specs.WorkerSteps.{brings_again};
 
 use crate::context::Context;
 use crate::duties::duty_of;
+use crate::take_turn::TakeTurn;
 use cc_channels::{Admission, Shared};
-use cc_intake::{Accepted, Hooks, Lane, Life, Refused, Source};
+use cc_intake::{Accepted, Lane, Life, Refused, Source};
 use cc_messages::Event;
 use cc_policies::Duty;
 use cc_site::Flushed;
@@ -15,8 +16,9 @@ use std::sync::Wait;
 
 /// The events of the node's own messages, until None comes.
 #[derive(Drop)]
-struct Own<'a, R: Wait, F: Flushed> {
+struct Own<'a, R: Wait, T: TakeTurn, F: Flushed> {
     rt: &'a R,
+    turns: &'a T,
     shared: &'a Shared,
     admission: &'a Admission<F>,
     from: Receiver<Option<Event>>,
@@ -24,7 +26,7 @@ struct Own<'a, R: Wait, F: Flushed> {
     due: Option<Event>,
 }
 
-impl<R: Wait, F: Flushed> Own<'_, R, F> {
+impl<R: Wait, T: TakeTurn, F: Flushed> Own<'_, R, T, F> {
     // The event that comes next: the one that is due, if one is.
     fn event(&mut self) -> Option<Event>
         ensures { IfSome self.old.due (λ due. result ≡ Some due) }
@@ -51,7 +53,7 @@ impl<R: Wait, F: Flushed> Own<'_, R, F> {
         ensures { result ≡ brings_again duty }
     {
         match duty {
-            Duty::Wake => self.shared.waker.wake(),
+            Duty::Wake => self.turns.take_turn(),
             Duty::Defer => self.shared.waker.defer(),
             Duty::Reack(peer) => self.shared.reack(self.rt, peer),
             Duty::BringAgain => return true,
@@ -61,7 +63,7 @@ impl<R: Wait, F: Flushed> Own<'_, R, F> {
     }
 }
 
-impl<R: Wait, F: Flushed> Source for Own<'_, R, F> {
+impl<R: Wait, T: TakeTurn, F: Flushed> Source for Own<'_, R, T, F> {
     ghost use Rattle.cc_workers.specs.WorkerSteps.{due_after};
 
     ghost gives = { λ s e t. IfSome s.due (λ due. IfSome e (λ given. given ≡ due)) };
@@ -91,8 +93,8 @@ impl<R: Wait, F: Flushed> Source for Own<'_, R, F> {
 }
 
 /// Brings what the node sends to itself to the intake, until None comes.
-pub fn serve_own<R: Wait, H: Hooks, L: Life, Q: Lane>(
-    context: &Context<'_, R, H, L, Q>,
+pub fn serve_own<R: Wait, T: TakeTurn, L: Life, Q: Lane>(
+    context: &Context<'_, R, T, L, Q>,
     from: Receiver<Option<Event>>,
 ) {
     let Some(mut share) = context.draw() else {
@@ -101,6 +103,7 @@ pub fn serve_own<R: Wait, H: Hooks, L: Life, Q: Lane>(
     };
     let mut own = Own {
         rt: context.rt,
+        turns: context.turns,
         shared: context.shared,
         admission: context.admission,
         from,
