@@ -2,7 +2,7 @@
 .PHONY: try run install test check bench edits standing-edits must-not-compile refused-growths failing-calls kill-files \
     cluster load kill-cluster soak soak-absent hostile closed-streams dead-member refused-flood stray-frames many-sessions \
     stale-collects costs worked-rows trusted links beside look look-picture hostile-status mistakes deb test-systemd \
-    tls-cluster clients page-bytes one-session half-close idle-cluster power-cut slow-readers full-pipe operator-places many-nodes \
+    tls-cluster clients page-bytes one-session half-close idle-cluster power-cut slow-readers slow-beside full-pipe operator-places many-nodes \
     upgrade chain gone-words one-edit-each first-store snapshots partial-writes wrong-places mutated-hellos http-clients turns hops
 
 # Plays the script that ships with the program before any proof.
@@ -258,6 +258,11 @@ wrong-places:
 slow-readers:
 	@$(BUILD) ccnode
 	@python3 tools/slow_readers.py crates/ccnode/out/ccnode
+
+# Measures what clients wait beside 200 others that don't read, and beside a peer that reads a byte a second: two minutes.
+slow-beside:
+	@$(BUILD) ccnode
+	@python3 tools/slow_beside.py crates/ccnode/out/ccnode
 
 # Has a client read long replies and refusals bit by bit, and compares each frame: half a minute.
 partial-writes:
