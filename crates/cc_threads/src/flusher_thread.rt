@@ -1,7 +1,8 @@
 //! The flusher's thread.
 
-ghost use Rattle.std.specs.Prelude.{◌↔◌, ◌<◌, ◌-◌, IsTrue};
+ghost use Rattle.std.specs.Prelude.{◌↔◌, length, IsTrue};
 ghost use Rattle.cc_flush.specs.Engine.{held_of};
+ghost use Rattle.cc_threads.specs.Checkpoints.{IsDue};
 
 use crate::absent_peers::{Looks, look, tell_withheld};
 use crate::shown_state::{Tally, pass_second};
@@ -119,9 +120,7 @@ fn tick<S: Site, L: Life, Q: Lane, R: Wait + Clock>(
 ) -> Result<(), Failed> {
     watch.shared.channels.mute(rt);
     resend(rt, &mut engine.turner, watch)?;
-    if engine.turner.handed() > seen.flushed {
-        move_if_long(rt, watch.shared, seen, engine)?;
-    }
+    move_if_due(rt, watch.shared, seen, engine)?;
     show(rt, engine.turner.engine(), watch, &mut engine.tally);
     enter(rt, &engine.turner, watch.shared);
     Ok(())
@@ -206,25 +205,30 @@ fn grant<S: Site, L: Life, Q: Lane, R: Wait>(
     Ok(true)
 }
 
-// Whether the side in use holds plenty, and much more than the `begun` bytes that it began with. How long the side is doesn't
-// tell: that rises by strides.
-fn holds_plenty<S: Site>(engine: &Flusher<S>, begun: u64) -> bool
-    ensures { IsTrue result ↔ ((CHECKPOINT_BYTES < held_of engine.now) × (CHECKPOINT_GROWTH_BYTES < held_of engine.now - begun)) }
+// Whether a checkpoint is due, where the side in use began with so many bytes, and after so many events. How long the side is
+// doesn't tell: that rises by strides.
+fn is_checkpoint_due<S: Site, L: Life, Q: Lane>(
+    turner: &Turner<S, L, Q>,
+    begun: u64,
+    flushed: u64,
+) -> bool
+    ensures { IsTrue result ↔ IsDue begun flushed (held_of turner.now.engine) (length turner.now.handed) }
 {
-    let held = engine.held();
-    held > CHECKPOINT_BYTES && held.saturating_sub(begun) > CHECKPOINT_GROWTH_BYTES
+    let held = turner.engine().held();
+    turner.handed() > flushed
+        && held > CHECKPOINT_BYTES
+        && held.saturating_sub(begun) > CHECKPOINT_GROWTH_BYTES
 }
 
-// Moves to the other side where the one in use holds plenty, and much more than when it was begun. From then on, or where it never
-// can again, it waits for further events.
-fn move_if_long<S: Site, L: Life, Q: Lane, R: Wait + Clock>(
+// Moves to the other side where a checkpoint is due. From then on, or where it never can again, it waits for further events.
+fn move_if_due<S: Site, L: Life, Q: Lane, R: Wait + Clock>(
     rt: &R,
     shared: &Shared,
     seen: &mut Seen,
     engine: &mut CountedTurner<S, L, Q>,
 ) -> Result<(), Failed> {
     let turner = &mut engine.turner;
-    if !holds_plenty(turner.engine(), seen.begun) {
+    if !is_checkpoint_due(turner, seen.begun, seen.flushed) {
         return Ok(());
     }
     let start = millis(rt);
