@@ -1,6 +1,6 @@
 -- When a checkpoint begins: the node moves to the other side of its folder.
 --     checkpoint_bytes, growth_bytes    a side is left once it holds more bytes than the first, and so many more than at its begin
---     IsDue                             a checkpoint is due
+--     IsCheckpointDue                   a checkpoint is due
 use Rattle.std.specs.Prelude.{ℕ, ◌<◌, ◌-◌}
 
 abbrev pub checkpoint_bytes : ℕ
@@ -11,5 +11,5 @@ growth_bytes = 1048576
 
 -- since the side in use began, with so many bytes and after so many durable events, further events became durable, and the side holds
 -- plenty now
-abbrev pub IsDue : (begun : ℕ) (before : ℕ) (held : ℕ) (durable : ℕ) → Type 0
-IsDue begun before held durable = (before < durable) × (checkpoint_bytes < held) × (growth_bytes < held - begun)
+abbrev pub IsCheckpointDue : (begun : ℕ) (before : ℕ) (held : ℕ) (durable : ℕ) → Type 0
+IsCheckpointDue begun before held durable = (before < durable) × (checkpoint_bytes < held) × (growth_bytes < held - begun)

@@ -2,7 +2,7 @@
 
 ghost use Rattle.std.specs.Prelude.{◌↔◌, length, IsTrue};
 ghost use Rattle.cc_flush.specs.Engine.{held_of};
-ghost use Rattle.cc_threads.specs.Checkpoints.{IsDue};
+ghost use Rattle.cc_threads.specs.Checkpoints.{IsCheckpointDue};
 
 use crate::absent_peers::{Looks, look, tell_withheld};
 use crate::shown_state::{Tally, pass_second};
@@ -212,7 +212,7 @@ fn is_checkpoint_due<S: Site, L: Life, Q: Lane>(
     begun: u64,
     flushed: u64,
 ) -> bool
-    ensures { IsTrue result ↔ IsDue begun flushed (held_of turner.now.engine) (length turner.now.handed) }
+    ensures { IsTrue result ↔ IsCheckpointDue begun flushed (held_of turner.now.engine) (length turner.now.handed) }
 {
     let held = turner.engine().held();
     turner.handed() > flushed
