@@ -30,7 +30,7 @@ const REFUSED_MS: u64 = 500;
 pub struct Dialler<'x> {
     pub alloc: Global,
     pub me: NodeId,
-    pub dialling: &'x HelloExchange,
+    pub hello_exchange: &'x HelloExchange,
     /// The flusher sends again what a peer hasn't acknowledged once that is connected to.
     pub waker: &'x Waker,
     /// What ends it.
@@ -47,7 +47,7 @@ pub fn dial_peer<R: Wait + Clock + Log + Net<Stream = TcpStream>>(
     end: FarEnd,
 ) {
     let mut noted = Noted::new(dialler.me, end.peer);
-    let mut first = FirstTry::new(dialler.dialling);
+    let mut first = FirstTry::new(dialler.hello_exchange);
     for _ in rt.forever() {
         if dialler.over.is_set() {
             return;
@@ -118,7 +118,7 @@ fn note_met<R: Wait + Log>(
             noted.connect(rt, address);
             noted.double(rt, address, met == Met::Doubled);
         }
-        Met::OldCopy { heard } => dialler.dialling.find(OldCopy {
+        Met::OldCopy { heard } => dialler.hello_exchange.find(OldCopy {
             peer: end.peer,
             heard,
             posted: end.way.marks.posted(),
@@ -139,7 +139,7 @@ fn note_met<R: Wait + Log>(
 fn greet<R: Clock>(rt: &R, dialler: &Dialler<'_>, end: &FarEnd, stream: &TcpStream) -> Met {
     let _ = stream.set_nodelay(true);
     let _ = stream.set_write_timeout(Some(Duration::from_millis(PEER_ANSWER_MS)));
-    match dialler.dialling.greeter() {
+    match dialler.hello_exchange.greeter() {
         Some(greeter) => greet_as(rt, dialler.alloc, greeter, end, stream),
         None => Met::Welcome,
     }

@@ -49,7 +49,7 @@ pub struct ConnectionAdmission<'a, F: Flushed> {
     admission: &'a Admission<F>,
     waker: &'a Waker,
     connections: &'a Connections,
-    dialling: &'a HelloExchange,
+    hello_exchange: &'a HelloExchange,
     connection: &'a Connection,
     admitted: Admitted,
     me: NodeId,
@@ -79,7 +79,7 @@ impl<'a, F: Flushed> ConnectionAdmission<'a, F> {
         admission: &'a Admission<F>,
         waker: &'a Waker,
         connections: &'a Connections,
-        dialling: &'a HelloExchange,
+        hello_exchange: &'a HelloExchange,
         connection: &'a Connection,
         admitted: Admitted,
         me: NodeId,
@@ -90,11 +90,11 @@ impl<'a, F: Flushed> ConnectionAdmission<'a, F> {
             admission,
             waker,
             connections,
-            dialling,
+            hello_exchange,
             connection,
             admitted,
             me,
-            needs_greeting: dialling.needs_greeting(),
+            needs_greeting: hello_exchange.needs_greeting(),
             greeter: None,
             speaks_for: AtomicU64::new(0),
         }
@@ -147,9 +147,9 @@ impl<F: Flushed> Admit for ConnectionAdmission<'_, F> {
             }
         }
         if matches!(event, Event::Ask { .. }) {
-            self.dialling.wait(rt);
+            self.hello_exchange.wait(rt);
         }
-        if self.dialling.old_copy().is_some() {
+        if self.hello_exchange.old_copy().is_some() {
             return Err(NotAdmitted::Closed);
         }
         self.admission

@@ -135,15 +135,15 @@ impl HelloExchange {
 /// The first try to greet a peer.
 #[derive(Drop)]
 pub struct FirstTry<'a> {
-    dialling: &'a HelloExchange,
+    hello_exchange: &'a HelloExchange,
     is_over: bool,
 }
 
 impl<'a> FirstTry<'a> {
     /// It isn't over.
-    pub fn new(dialling: &'a HelloExchange) -> Self {
+    pub fn new(hello_exchange: &'a HelloExchange) -> Self {
         FirstTry {
-            dialling,
+            hello_exchange,
             is_over: false,
         }
     }
@@ -152,7 +152,7 @@ impl<'a> FirstTry<'a> {
     pub fn end<R: Wait>(&mut self, rt: &R) {
         if !self.is_over {
             self.is_over = true;
-            self.dialling.arrive(rt);
+            self.hello_exchange.arrive(rt);
         }
     }
 }

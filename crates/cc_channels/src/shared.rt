@@ -31,7 +31,7 @@ pub struct Shared {
     pub channels: PeerChannels,
     pub own: OwnChannel,
     /// How it greets its peers, and who is taken that greets it.
-    pub dialling: HelloExchange,
+    pub hello_exchange: HelloExchange,
     pub reception: Reception,
     /// What wakes the flusher.
     pub waker: Waker,
@@ -42,7 +42,7 @@ pub struct Shared {
     /// Which wishes of sessions were granted.
     pub grants: Grants,
     /// How its peers stand, and whether one is absent.
-    pub standings: Mutex<HealthTable>,
+    pub health: Mutex<HealthTable>,
     pub any_absent: Flag,
     /// What the flusher notes.
     pub notes: NoteChannel,
@@ -78,7 +78,7 @@ struct Tables {
     connections: Connections,
     reception: Reception,
     wishes: Wishes,
-    standings: HealthTable,
+    health: HealthTable,
     gauges: Gauges,
 }
 
@@ -93,19 +93,19 @@ impl Tables {
             drop((connections, reception));
             return Err(NoMemory);
         };
-        let Ok(standings) = HealthTable::new(alloc) else {
+        let Ok(health) = HealthTable::new(alloc) else {
             drop((connections, reception, wishes));
             return Err(NoMemory);
         };
         let Ok(gauges) = Gauges::new(alloc) else {
-            drop((connections, reception, wishes, standings));
+            drop((connections, reception, wishes, health));
             return Err(NoMemory);
         };
         Ok(Tables {
             connections,
             reception,
             wishes,
-            standings,
+            health,
             gauges,
         })
     }
@@ -181,7 +181,7 @@ impl Shared {
             connections,
             reception,
             wishes,
-            standings,
+            health,
             gauges,
         } = tables;
         let Ways {
@@ -195,13 +195,13 @@ impl Shared {
             connections,
             channels,
             own,
-            dialling: HelloExchange::new(),
+            hello_exchange: HelloExchange::new(),
             reception,
             waker,
             known: Known::new(alloc),
             wishes: Mutex::new(wishes),
             grants: Grants::new(),
-            standings: Mutex::new(standings),
+            health: Mutex::new(health),
             any_absent: Flag::new(),
             notes,
             gauges,
@@ -224,7 +224,7 @@ impl Shared {
         self.now.store(now, Ordering::SeqCst);
         self.monotonic_now.store(monotonic_now, Ordering::SeqCst);
         self.seconds.fetch_add(1, Ordering::SeqCst);
-        self.dialling.settle(rt);
+        self.hello_exchange.settle(rt);
         self.ticked.set();
         self.waker.wake();
     }
@@ -236,7 +236,7 @@ impl Shared {
 
     /// Whether the node ends by itself: a disk call failed, or its folder is an old copy.
     pub fn has_ended(&self) -> bool {
-        self.ended.is_set() || self.dialling.old_copy().is_some()
+        self.ended.is_set() || self.hello_exchange.old_copy().is_some()
     }
 
     /// What the node and its peers have of each other's posts, as the node's state has it: of a peer that it doesn't know, nothing.
@@ -290,7 +290,7 @@ impl Shared {
             channel.hear(self.monotonic_now.load(Ordering::SeqCst));
         }
         if self.any_absent.is_set() {
-            self.standings.lock(rt).note_voice(peer);
+            self.health.lock(rt).note_voice(peer);
         }
     }
 
@@ -309,7 +309,7 @@ impl Shared {
         if !self.any_absent.is_set() {
             return false;
         }
-        self.standings.lock(rt).hear_ack(peer)
+        self.health.lock(rt).hear_ack(peer)
     }
 
     /// Has the flusher put out the last answer of a session again.

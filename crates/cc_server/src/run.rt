@@ -269,7 +269,7 @@ fn begin_greetings<R: Wait + Log, H>(run: &Run<'_, R, H>, core: &Core) {
     if run.config.identity.cluster.as_bytes().is_empty() {
         give_notice(run.rt, core.me(), &Notice::Nameless);
     } else {
-        shared.dialling.need_greeting();
+        shared.hello_exchange.need_greeting();
     }
     if let Some(me) = recipient_of(run, core) {
         shared.reception.begin(me);
@@ -300,7 +300,7 @@ fn begin_dialling<R, H>(run: &Run<'_, R, H>, core: &Core) {
             run: run.config.run,
         };
         let peers = run.config.peers.len() as u64;
-        run.shared.dialling.begin(greeter, peers);
+        run.shared.hello_exchange.begin(greeter, peers);
     }
 }
 
@@ -309,7 +309,7 @@ fn or_old_copy(
     shared: &Shared,
     outcome: Result<Finished<()>, RunFault>,
 ) -> Result<Finished<()>, RunFault> {
-    match shared.dialling.old_copy() {
+    match shared.hello_exchange.old_copy() {
         Some(old_copy) => {
             drop(outcome);
             Err(RunFault::OldCopy {

@@ -145,7 +145,7 @@ where
     let dialler = Dialler {
         alloc,
         me: context.me,
-        dialling: &context.shared.dialling,
+        hello_exchange: &context.shared.hello_exchange,
         waker: &context.shared.waker,
         over,
     };

@@ -93,7 +93,7 @@ fn pass_second<R: Wait>(rt: &R, core: &Core, shared: &Shared, seconds: u64) -> b
             is_back |= passed.is_back;
         }
     }
-    let has_absent = shared.standings.lock(rt).has_absent();
+    let has_absent = shared.health.lock(rt).has_absent();
     shared.any_absent.put(has_absent);
     is_back
 }
@@ -101,8 +101,8 @@ fn pass_second<R: Wait>(rt: &R, core: &Core, shared: &Shared, seconds: u64) -> b
 fn pass_link<R: Wait>(rt: &R, core: &Core, shared: &Shared, link: &LinkRow) -> Passed {
     let sent = sent_to(rt, core, shared, link);
     let is_live = core.is_live(link.peer);
-    let mut standings = shared.standings.lock(rt);
-    standings.pass_second(link.peer, link.acked, sent, is_live)
+    let mut health = shared.health.lock(rt);
+    health.pass_second(link.peer, link.acked, sent, is_live)
 }
 
 // How many posts a peer was sent: what is withheld from it isn't sent yet.
@@ -197,6 +197,6 @@ fn hand_lapses<R: Wait>(rt: &R, core: &Core, shared: &Shared, is_tick: bool) {
 
 fn lapses<R: Wait>(rt: &R, core: &Core, shared: &Shared, link: &LinkRow, is_tick: bool) -> bool {
     let reach = link.start.saturating_add(link.acked);
-    let mut standings = shared.standings.lock(rt);
-    standings.lapse(link.peer, reach, core.posts(), is_tick)
+    let mut health = shared.health.lock(rt);
+    health.lapse(link.peer, reach, core.posts(), is_tick)
 }

@@ -219,7 +219,7 @@ fn peer_notes<R: Wait>(
 }
 
 fn peer_note<R: Wait>(rt: &R, shared: &Shared, me: NodeId, link: &LinkRow) -> PeerNote {
-    let is_absent = shared.standings.lock(rt).standing(link.peer).is_absent();
+    let is_absent = shared.health.lock(rt).standing(link.peer).is_absent();
     let channel = shared.channel_to(link.peer);
     let since = channel.and_then(PeerChannel::absent_since);
     PeerNote {

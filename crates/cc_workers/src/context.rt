@@ -57,14 +57,14 @@ impl<R: Wait, T: TakeTurn, L: Life, Q: Lane> Context<'_, R, T, L, Q> {
         let Shared {
             waker,
             connections,
-            dialling,
+            hello_exchange,
             ..
         } = self.shared;
         ConnectionAdmission::new(
             self.admission,
             waker,
             connections,
-            dialling,
+            hello_exchange,
             connection,
             admitted,
             self.me,

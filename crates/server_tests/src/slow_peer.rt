@@ -94,7 +94,7 @@ fn dial<R: Wait + Clock + Log + Net<Stream = TcpStream>>(
     rt: &R,
     alloc: Global,
     me: NodeId,
-    dialling: &HelloExchange,
+    hello_exchange: &HelloExchange,
     waker: &Waker,
     over: &Flag,
     end: FarEnd,
@@ -102,7 +102,7 @@ fn dial<R: Wait + Clock + Log + Net<Stream = TcpStream>>(
     let dialler = Dialler {
         alloc,
         me,
-        dialling,
+        hello_exchange,
         waker,
         over,
     };
@@ -123,15 +123,15 @@ fn a_peer_that_reads_late_gets_all_in_order(rt: HostRuntime) {
     let parker = Parker::new(alloc).expect(&rt, "room");
     let waker = Waker::new(parker.unparker().clone().expect(&rt, "room"));
     let over = Flag::new();
-    let dialling = HelloExchange::new();
+    let hello_exchange = HelloExchange::new();
     let me = node(&rt, 1);
     thread::join(
         &rt,
-        || dial(&rt, alloc, me, &dialling, &waker, &over, end),
+        || dial(&rt, alloc, me, &hello_exchange, &waker, &over, end),
         || {
             read_late(&rt, alloc, &channels, &listener);
             over.set();
         },
     );
-    drop((channels, waker, parker, listener, dialling));
+    drop((channels, waker, parker, listener, hello_exchange));
 }
