@@ -1,7 +1,9 @@
 //! Two of three members go on without the third, which is started late or never.
 
 use crate::ask::{DONE, check_asked, is_asked, is_retired, order, retirement};
-use crate::nodes::{Place, format, free_place, peer, run, while_one_runs, while_two_run};
+use crate::nodes::{
+    Place, TwoMembers, format, free_place, peer, run, two_members, while_one_runs, while_two_run,
+};
 use cc_connections::{Address, Stop};
 use cc_intake::NoHooks;
 use std::alloc::Global;
@@ -100,18 +102,14 @@ where
 
 #[test]
 fn a_store_begins_anew_once_the_dead_member_is_retired(rt: HostRuntime) {
-    format(&rt, "retired-1", "1", "1,2,3", None, None);
-    format(&rt, "retired-2", "2", "1,2,3", None, None);
-    let Place {
-        listener: first,
-        address: one,
-    } = free_place(&rt);
-    let Place {
-        listener: second,
-        address: two,
-    } = free_place(&rt);
-    let of_1 = [peer(&rt, 2, Address::from(two))];
-    let of_2 = [peer(&rt, 1, Address::from(one))];
+    let TwoMembers {
+        first,
+        second,
+        one,
+        two,
+        of_1,
+        of_2,
+    } = two_members(&rt, "retired-1", "retired-2", "1,2,3");
     let stop = Stop::new();
     let alloc = rt.alloc();
     while_two_run(

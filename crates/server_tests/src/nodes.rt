@@ -76,6 +76,42 @@ pub(crate) fn peer<R: Abort>(rt: &R, number: u32, address: Address) -> Peer {
     }
 }
 
+/// Nodes 1 and 2, each the peer of the other.
+#[derive(Drop)]
+pub(crate) struct TwoMembers {
+    pub first: TcpListener,
+    pub second: TcpListener,
+    pub one: SocketAddr,
+    pub two: SocketAddr,
+    pub of_1: [Peer; 1],
+    pub of_2: [Peer; 1],
+}
+
+/// New folders of members 1 and 2 of a cluster with these members, and ports that are free.
+pub(crate) fn two_members<R>(rt: &R, folder_1: &str, folder_2: &str, members: &str) -> TwoMembers
+where
+    R: Abort + AllocGlobal + Files<File = File> + Net<Listener = TcpListener, Stream = TcpStream>,
+{
+    format(rt, folder_1, "1", members, None, None);
+    format(rt, folder_2, "2", members, None, None);
+    let Place {
+        listener: first,
+        address: one,
+    } = free_place(rt);
+    let Place {
+        listener: second,
+        address: two,
+    } = free_place(rt);
+    TwoMembers {
+        first,
+        second,
+        one,
+        two,
+        of_1: [peer(rt, 2, Address::from(two))],
+        of_2: [peer(rt, 1, Address::from(one))],
+    }
+}
+
 /// What a node of a test is run with, beside its listener.
 #[derive(Clone, Copy)]
 pub(crate) struct Setting<'a> {

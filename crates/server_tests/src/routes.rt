@@ -2,8 +2,8 @@
 
 use crate::clients::{FIRST_ASK, FIRST_REPLY, connected, ends, reads};
 use crate::hostile::OUT_OF_TURN;
-use crate::nodes::{Place, format, free_place, peer, run, while_two_run};
-use cc_connections::{Address, Stop};
+use crate::nodes::{TwoMembers, run, two_members, while_two_run};
+use cc_connections::Stop;
 use cc_intake::NoHooks;
 use std::io::{Read, Write};
 use std::net::{Net, Shutdown, SocketAddr, TcpStream};
@@ -83,18 +83,14 @@ fn await_flag(flag: &Stop) {
 
 #[test]
 fn replies_go_to_who_asked_and_peers_have_one_connection(rt: HostRuntime) {
-    format(&rt, "routed-1", "1", "1,2", None, None);
-    format(&rt, "routed-2", "2", "1,2", None, None);
-    let Place {
-        listener: first,
-        address: one,
-    } = free_place(&rt);
-    let Place {
-        listener: second,
-        address: two,
-    } = free_place(&rt);
-    let of_1 = [peer(&rt, 2, Address::from(two))];
-    let of_2 = [peer(&rt, 1, Address::from(one))];
+    let TwoMembers {
+        first,
+        second,
+        one,
+        two,
+        of_1,
+        of_2,
+    } = two_members(&rt, "routed-1", "routed-2", "1,2");
     let begun = Stop::new();
     let stop = Stop::new();
     let alloc = rt.alloc();

@@ -8,7 +8,7 @@ use crate::clients::{
 use crate::held_sync::Hold;
 use crate::hostile::attack;
 use crate::load::check_load;
-use crate::nodes::{Place, format, free_place, peer, run, while_two_run};
+use crate::nodes::{TwoMembers, free_place, peer, run, two_members, while_two_run};
 use cc_connections::{Address, Host, HostName, Stop};
 use cc_intake::NoHooks;
 use std::io::Write;
@@ -156,16 +156,13 @@ where
 
 #[test]
 fn two_nodes_answer_and_what_they_tell_is_durable(rt: HostRuntime) {
-    format(&rt, "two-1", "1", "1,2", None, None);
-    format(&rt, "two-2", "2", "1,2", None, None);
-    let Place {
-        listener: first,
-        address: one,
-    } = free_place(&rt);
-    let Place {
-        listener: second,
-        address: two,
-    } = free_place(&rt);
+    let TwoMembers {
+        first,
+        second,
+        one,
+        two,
+        ..
+    } = two_members(&rt, "two-1", "two-2", "1,2");
     let of_1 = [peer(&rt, 2, named(&rt, two))];
     let of_2 = [peer(&rt, 1, named(&rt, one))];
     let hold = Hold::new();
