@@ -77,37 +77,94 @@ where
     R: Files<File = File> + Machinery + RandomSource + Sync,
     N: Machine,
 {
-    let peers_file = words.peers_file;
-    if let Err(error) = print_lost(rt, folder) {
-        drop(order);
-        return Err(error);
-    }
-    if let Err(error) = wait_for_folder(rt, machine, folder) {
-        drop(order);
-        return Err(error.into());
-    }
-    let own = match peers_file {
-        Some(_) => match node_in_folder(rt, rt.alloc(), folder) {
-            Ok(node) => Some(node),
-            Err(fault) => {
-                drop(order);
-                return print_run_fault(rt, folder, fault.into());
-            }
-        },
-        None => None,
-    };
-    let identity = match identity_of_folder(rt, rt.alloc(), folder) {
-        Ok(identity) => identity.unwrap_or(Identity::nameless()),
+    match prepare(rt, machine, folder, words.peers_file) {
+        Ok(prepared) => run_prepared(rt, machine, folder, order, prepared, words),
         Err(why) => {
             drop(order);
-            return print_identity_error(rt, folder, &why);
+            print_unready(rt, folder, why)
         }
+    }
+}
+
+// What is known of a node before it runs.
+#[derive(Clone, Copy)]
+struct Prepared {
+    // Its id, where its own line among the peers is to be passed over.
+    own: Option<NodeId>,
+    identity: Identity,
+    // 64 random bits, which tell it from others that run.
+    run: u64,
+}
+
+// Why a node doesn't run.
+#[derive(Drop)]
+enum Unready {
+    Output(anyhow::Error),
+    Folder(RunFault),
+    Identity(IdentityError),
+    NoRandom,
+}
+
+// Looks at the folder, once no other program holds it, and prints which of its files are lost.
+fn prepare<R, N>(
+    rt: &R,
+    machine: &N,
+    folder: &str,
+    peers_file: Option<&str>,
+) -> Result<Prepared, Unready>
+where
+    R: Files<File = File> + Machinery + RandomSource + Sync,
+    N: Machine,
+{
+    print_lost(rt, folder).map_err(Unready::Output)?;
+    wait_for_folder(rt, machine, folder).map_err(|error| Unready::Output(error.into()))?;
+    let own = match peers_file {
+        Some(_) => Some(own_id(rt, folder)?),
+        None => None,
     };
-    let Ok(run) = random_number(rt) else {
-        drop(order);
-        return print_no_random(rt);
-    };
-    let known = Known { identity, run };
+    let identity = identity_of_folder(rt, rt.alloc(), folder).map_err(Unready::Identity)?;
+    let run = random_number(rt).or(Err(Unready::NoRandom))?;
+    Ok(Prepared {
+        own,
+        identity: identity.unwrap_or(Identity::nameless()),
+        run,
+    })
+}
+
+// The id of the node of a folder.
+fn own_id<R>(rt: &R, folder: &str) -> Result<NodeId, Unready>
+where
+    R: Files<File = File> + Machinery,
+{
+    node_in_folder(rt, rt.alloc(), folder).map_err(|fault| Unready::Folder(fault.into()))
+}
+
+// Prints why a node doesn't run.
+fn print_unready<R>(rt: &R, folder: &str, why: Unready) -> anyhow::Result<ExitCode>
+where
+    R: Files<File = File> + Machinery,
+{
+    match why {
+        Unready::Output(error) => Err(error),
+        Unready::Folder(fault) => print_run_fault(rt, folder, fault),
+        Unready::Identity(why) => print_identity_error(rt, folder, &why),
+        Unready::NoRandom => print_no_random(rt),
+    }
+}
+
+// Runs a node of which all is known.
+fn run_prepared<R, N>(
+    rt: &R,
+    machine: &N,
+    folder: &str,
+    order: RunOrder,
+    prepared: Prepared,
+    words: &RunWords<'_>,
+) -> anyhow::Result<ExitCode>
+where
+    R: Files<File = File> + Machinery + RandomSource + Sync,
+    N: Machine,
+{
     let web = Web {
         listen: order.http,
         settings: WebSettings {
@@ -115,7 +172,7 @@ where
             allowed_origin: words.http_origin.map(str::as_bytes),
         },
     };
-    let config = config_of(folder, order, own, known, peers_file);
+    let config = config_of(folder, order, prepared, words.peers_file);
     let outcome = run_beside(rt, machine, &config, web);
     drop(config);
     match outcome {
@@ -163,24 +220,15 @@ where
     outcome
 }
 
-// What tells a node from others that runs.
-#[derive(Clone, Copy)]
-struct Known {
-    identity: Identity,
-    // 64 random bits.
-    run: u64,
-}
-
 // What a node is run with: what an order has of it, without the node itself among its peers.
 fn config_of<'a>(
     folder: &'a str,
     order: RunOrder,
-    own: Option<NodeId>,
-    known: Known,
+    prepared: Prepared,
     peers_file: Option<&'a str>,
 ) -> Config<'a> {
     let mut order = order;
-    if let Some(node) = own {
+    if let Some(node) = prepared.own {
         order.pass_over(node);
     }
     let RunOrder {
@@ -199,8 +247,8 @@ fn config_of<'a>(
         listen,
         listen_clients,
         remote_operators,
-        identity: known.identity,
-        run: known.run,
+        identity: prepared.identity,
+        run: prepared.run,
         speech,
         peers,
         peers_file,
