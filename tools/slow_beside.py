@@ -145,7 +145,8 @@ def p99_of(cluster, askers, seconds, has_deaf, is_slow):
         time.sleep(1)
         took, passed = run_clients(askers, seconds)
     beside = f", {deaf.sent} asks whose answers nobody read, {deaf.closed} closed" if deaf else ""
-    return percentile(took, 0.99), f"{len(took) / passed:.0f} a second, p50 {percentile(took, 0.5):.0f}{beside}"
+    told = f"{len(took) / passed:.0f} a second, p50 {percentile(took, 0.5):.0f}, the longest {max(took) * 1e6:.0f}"
+    return percentile(took, 0.99), told + beside
 
 
 def measure(verdicts, program, seconds, rounds):
